@@ -1,0 +1,40 @@
+// The grid of lengths: whole multiples of 1/64 of a pixel (document 01, "Domain and refusal numbers").
+ghost use mathlib.Core.Path.{_≡_};
+ghost use Prim.Native.Nat.{_≤_};
+ghost use lib.IntN.{natAbs};
+ghost use lib.Ieee.Scale.{finite};
+ghost use Rattle.grid.specs.Grid.{At, onGrid, Length, sixtyFourths};
+
+// Whole sixty-fourths of a pixel. Pixels are plain floats, so neither can stand where the other is meant.
+pub struct Sixtyfourths(pub i32);
+
+// Neither a NaN nor an infinity: only of those is the difference from itself no zero.
+pub fn is_finite(x: f32) -> bool
+    ensures { λ r. ⌜ r ≡ finite x ⌝ }
+{
+    x - x == 0.0
+}
+
+// Whether x is a whole multiple of 1/64. The remainder is exact for every float; a product by 64 would overflow for the largest.
+pub fn on_grid(x: f32) -> bool
+    ensures { λ r. ⌜ r ≡ onGrid x ⌝ }
+{
+    x % 0.015625 == 0.0
+}
+
+// A length in sixty-fourths. Adding 0.0 turns -0.0, which no cast takes, into 0.0.
+pub fn to_sixtyfourths(x: f32) -> Sixtyfourths
+    requires { ⌜ Length x ⌝ }
+    ensures { λ r. ⌜ r .0 ≡ sixtyFourths x ⌝ }
+{
+    Sixtyfourths((x * 64.0 + 0.0) as i32)
+}
+
+// A number of sixty-fourths as a length in pixels.
+pub fn from_sixtyfourths(v: Sixtyfourths) -> f32
+    requires { ⌜ natAbs (v .0) ≤ 16777216 ⌝ }
+    ensures { λ r. ⌜ At 64 r (v .0) ⌝ }
+{
+    let n = v.0;
+    (n as f32) * 0.015625
+}
