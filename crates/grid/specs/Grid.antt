@@ -1,7 +1,7 @@
 -- Document 01, "Domain and refusal numbers": lengths on the grid, in pixels and in whole sixty-fourths. Definitions only. Assumes nothing.
 use mathlib.Core.Path.{_≡_}
 use mathlib.Core.Bool.{Bool, true, false}
-use Prim.Native.Nat.{ℕ, _*_, _/_, _%_, _≤_}
+use Prim.Native.Nat.{ℕ, zero, suc, _*_, _/_, _%_, _≤_}
 use lib.Dec.{T, eqb, leb}
 use lib.IntN.{ℤ, pos, negℤ, natAbs}
 use lib.Ieee.{Float, nan, inf, fin, up, down}
@@ -41,3 +41,10 @@ within n (fin s m e) = leb (m * up e) (n * down e)
 pub record Length (x : Float) : Type 0 where
   pub grid : T (onGrid x)
   pub small : natAbs (sixtyFourths x) ≤ 16777216
+
+-- "an answer that would be -0.0 is 0.0"
+unfoldable pub cleaned : Float → Float
+cleaned nan = nan
+cleaned (inf s) = inf s
+cleaned (fin s zero e) = fin false zero e
+cleaned (fin s (suc m) e) = fin s (suc m) e

@@ -3,7 +3,7 @@ ghost use mathlib.Core.Path.{_≡_};
 ghost use Prim.Native.Nat.{_≤_};
 ghost use lib.IntN.{natAbs};
 ghost use lib.Ieee.Scale.{finite};
-ghost use Rattle.grid.specs.Grid.{At, onGrid, Length, sixtyFourths};
+ghost use Rattle.grid.specs.Grid.{At, onGrid, Length, sixtyFourths, cleaned};
 
 // Whole sixty-fourths of a pixel. Pixels are plain floats, so neither can stand where the other is meant.
 pub struct Sixtyfourths(pub i32);
@@ -37,4 +37,11 @@ pub fn from_sixtyfourths(v: Sixtyfourths) -> f32
 {
     let n = v.0;
     (n as f32) * 0.015625
+}
+
+// x, and 0.0 for -0.0: the sum of -0.0 and 0.0 is 0.0, and adding 0.0 changes nothing else.
+pub fn clean(x: f32) -> f32
+    ensures { λ r. ⌜ r ≡ cleaned x ⌝ }
+{
+    x + 0.0
 }

@@ -1,0 +1,226 @@
+// Breaking items into lines: the break limit, what fits, and greedy breaking (document 01, "Break limit" and "Breaking").
+ghost use mathlib.Core.Path.{_≡_};
+ghost use mathlib.Core.List.{List, []};
+ghost use Prim.Native.Nat.{_≤_, _<_};
+ghost use lib.ListN.{length};
+ghost use lib.IntN.{ℤ};
+ghost use Rattle.grid.specs.Grid.{At, cleaned, sixtyFourths};
+ghost use Rattle.refusal.specs.Domain.{Number};
+ghost use Rattle.refusal.specs.Marks.{leastOf};
+ghost use Rattle.breaking.specs.Limit.{lowered, raised, raisedTo, numberOr, underMaximum, withoutMaximum, byMaximum, breakLimit, spaceNumbers, boundNumbers, limitCall};
+ghost use Rattle.breaking.specs.Breaking.{limitOf, fits, greedy};
+ghost use Rattle.breaking.specs.Calls.{breakingVerdict, Breakable, LineEnd, units, written, broken, greedyCall};
+use refusal::{Answer, Kind, Mark, Refusal, Verdict};
+
+// The space that a line may take.
+pub enum AvailableSpace {
+    Definite(f32),
+    MinContent,
+    MaxContent,
+}
+
+// A minimum or maximum that may be absent.
+pub enum Bound {
+    Absent,
+    Given(f32),
+}
+
+// What the break limit turns on: the known main size, the container's own main size, its direction, and the space and bounds on its main axis.
+pub struct Query {
+    pub known_is_definite: bool,
+    pub main_is_definite: bool,
+    pub is_row: bool,
+    pub available: AvailableSpace,
+    pub minimum: Bound,
+    pub maximum: Bound,
+}
+
+pub enum BreakLimit {
+    Limit(AvailableSpace),
+    Refused(Refusal),
+}
+
+fn lower(x: f32, y: f32) -> f32
+    ensures { λ r. ⌜ r ≡ lowered x y ⌝ }
+{
+    if y < x { y } else { x }
+}
+
+fn raise(x: f32, y: f32) -> f32
+    ensures { λ r. ⌜ r ≡ raised x y ⌝ }
+{
+    if x < y { y } else { x }
+}
+
+fn raise_to(minimum: Bound, x: f32) -> f32
+    ensures { λ r. ⌜ r ≡ raisedTo minimum x ⌝ }
+{
+    match minimum {
+        Bound::Absent => x,
+        Bound::Given(low) => raise(x, low),
+    }
+}
+
+fn number_or(available: AvailableSpace, maximum: f32) -> f32
+    ensures { λ r. ⌜ r ≡ numberOr available maximum ⌝ }
+{
+    match available {
+        AvailableSpace::Definite(x) => x,
+        AvailableSpace::MinContent => maximum,
+        AvailableSpace::MaxContent => maximum,
+    }
+}
+
+fn under_maximum(q: Query, maximum: f32) -> f32
+    ensures { λ r. ⌜ r ≡ underMaximum q maximum ⌝ }
+{
+    let x = number_or(q.available, maximum);
+    if q.main_is_definite { x } else { lower(x, maximum) }
+}
+
+fn without_maximum(q: Query, available: AvailableSpace) -> AvailableSpace
+    ensures { λ r. ⌜ r ≡ withoutMaximum q available ⌝ }
+{
+    match available {
+        AvailableSpace::Definite(x) => {
+            if q.is_row {
+                return AvailableSpace::Definite(grid::clean(x));
+            }
+            if q.main_is_definite {
+                return AvailableSpace::Definite(grid::clean(x));
+            }
+            AvailableSpace::MaxContent
+        }
+        AvailableSpace::MinContent => AvailableSpace::MinContent,
+        AvailableSpace::MaxContent => AvailableSpace::MaxContent,
+    }
+}
+
+fn limit_of(q: Query) -> AvailableSpace
+    ensures { λ r. ⌜ r ≡ breakLimit q ⌝ }
+{
+    if !q.known_is_definite {
+        return AvailableSpace::MaxContent;
+    }
+    let maximum = q.maximum;
+    match maximum {
+        Bound::Absent => without_maximum(q, q.available),
+        Bound::Given(high) => AvailableSpace::Definite(grid::clean(raise_to(q.minimum, under_maximum(q, high)))),
+    }
+}
+
+fn mark_space(limit: AvailableSpace) -> Mark
+    ensures { λ r. ⌜ r .0 ≡ leastOf (spaceNumbers limit) 0 ⌝ }
+{
+    match limit {
+        AvailableSpace::Definite(x) => refusal::mark_float(Kind::Length, x, 0),
+        AvailableSpace::MinContent => refusal::no_mark(),
+        AvailableSpace::MaxContent => refusal::no_mark(),
+    }
+}
+
+fn mark_bound(bound: Bound) -> Mark
+    ensures { λ r. ⌜ r .0 ≡ leastOf (boundNumbers bound) 0 ⌝ }
+{
+    match bound {
+        Bound::Absent => refusal::no_mark(),
+        Bound::Given(x) => refusal::mark_float(Kind::Size, x, 0),
+    }
+}
+
+// The break limit of any bits: refusals 3, 4 and 5 are the container's.
+pub fn break_limit(q: Query) -> BreakLimit
+    ensures { λ r. ⌜ r ≡ limitCall q ⌝ }
+{
+    let bounds = refusal::least(mark_bound(q.minimum), mark_bound(q.maximum));
+    let m = refusal::least(mark_space(q.available), bounds);
+    match refusal::judge(m) {
+        Verdict::Refused(why) => BreakLimit::Refused(why),
+        Verdict::Passed => BreakLimit::Limit(limit_of(q)),
+    }
+}
+
+// Whether a line of several items, of this size, fits. Both breakers take it from here.
+pub fn line_fits(limit: AvailableSpace, size: f32) -> bool
+    ensures { λ r. ⌜ ((y z : ℤ) → ((x : lib.Ieee.Float) → limit ≡ AvailableSpace.Definite x → At 64 x y) → At 64 size z → r ≡ fits (limitOf limit) z) ⌝ }
+{
+    match limit {
+        AvailableSpace::Definite(x) => size <= x,
+        AvailableSpace::MinContent => false,
+        AvailableSpace::MaxContent => true,
+    }
+}
+
+// Checks 1 to 6 of a breaking call. `codes` is the mark of codes that were taken before the limit.
+pub fn check_breaking(codes: Mark, limit: AvailableSpace, gap: f32, sizes: &[f32], room: bool) -> Verdict
+    ensures { λ r. ⌜ ((cs : List Number) → codes .0 ≡ leastOf cs 0 → r ≡ breakingVerdict cs limit gap (now (sizes .entry)) room) ⌝ }
+{
+    let shape = refusal::check_shape(sizes.len(), room);
+    let Verdict::Passed = shape else {
+        return shape;
+    };
+    let container = refusal::least(mark_space(limit), refusal::mark_float(Kind::Size, gap, 0));
+    let items = refusal::mark_floats(Kind::Length, sizes);
+    let numbers = refusal::judge(refusal::least(refusal::least(codes, container), items));
+    let Verdict::Passed = numbers else {
+        return numbers;
+    };
+    refusal::check_sum(refusal::sum_floats(sizes, gap))
+}
+
+// The end of the line that starts at an item. The sums are exact: every one is on the grid and within 2^24 sixty-fourths.
+fn line_end(sizes: &[f32], gap: f32, limit: AvailableSpace, start: usize) -> usize
+    requires { ⌜ Breakable limit gap (now sizes) × (start < length (now sizes)) ⌝ }
+    ensures { λ r. ⌜ LineEnd limit gap (now (sizes .entry)) start r ⌝ }
+{
+    let mut size = sizes[start];
+    let mut i = start + 1;
+    while i < sizes.len() {
+        let next = size + (sizes[i] + gap);
+        if line_fits(limit, next) {
+            size = next;
+            i += 1;
+        } else {
+            return i;
+        }
+    }
+    i
+}
+
+// The counts by line in the first cells, and 0 in the others of the first n.
+fn greedy_counts(sizes: &[f32], gap: f32, limit: AvailableSpace, counts: &mut [u32]) -> usize
+    requires { ⌜ Breakable limit gap (now sizes) × (length (now sizes) ≤ length (now counts)) ⌝ }
+    ensures { λ r. ⌜ (r ≡ length (greedy (limitOf limit) (sixtyFourths gap) (units (now (sizes .entry))))) × (now (counts .exit) ≡ written (length (now (sizes .entry))) (greedy (limitOf limit) (sixtyFourths gap) (units (now (sizes .entry)))) (now (counts .entry))) ⌝ }
+{
+    let mut start = 0;
+    let mut n = 0;
+    while start < sizes.len() {
+        let end = line_end(sizes, gap, limit, start);
+        counts[n] = (end - start) as u32;
+        n += 1;
+        start = end;
+    }
+    let mut i = n;
+    while i < sizes.len() {
+        counts[i] = 0;
+        i += 1;
+    }
+    n
+}
+
+// Greedy breaking of any bits.
+pub fn greedy(limit: AvailableSpace, gap: f32, sizes: &[f32], counts: &mut [u32]) -> Answer
+    ensures { λ r. ⌜ broken r (now (counts .exit)) ≡ greedyCall limit gap (now (sizes .entry)) (now (counts .entry)) ⌝ }
+{
+    let v = check_breaking(refusal::no_mark(), limit, gap, sizes, sizes.len() <= counts.len());
+    match v {
+        Verdict::Refused(why) => Answer::Refused(why),
+        Verdict::Passed => {
+            let n = greedy_counts(sizes, gap, limit, counts);
+            Answer::Done {
+                lines: n as u32,
+                rounds: 0,
+            }
+        }
+    }
+}
