@@ -1,17 +1,9 @@
-<<<<<<< HEAD
 -- `grid::on_grid` meets its contract: the sign of x does not count. Assumes nothing.
 use mathlib.Core.Path.{_≡_, sym, ap, _∙_}
 use borrow.Author.Needs.{needs}
 use lib.Ieee.{lt, neg}
 use Rattle.grid.proofs.Meaning.{none-bits}
 use Rattle.grid.proofs.Nudge.{grid-neg, neg-not-below}
-=======
--- `grid::on_grid` meets its contract. Assumes nothing.
-use mathlib.Core.Path.{_∙_, ap₂}
-use denote.Floats.{passes}
-use lib.Ieee.{Float, binary32, rem, eq}
-use Rattle.grid.proofs.Meaning.{grid-test, none-bits, step-bits}
->>>>>>> c6cd2e1b6aa2fec29ab967845adc3dd5ba71935c
 use Rattle.grid.proofs.on_grid.Statement.{statement}
 use Rattle.grid.proofs.on_grid.Tie as tie
 
