@@ -1,0 +1,4 @@
+pub mod Taken
+pub mod Greedy
+pub mod Line
+pub mod Counts
