@@ -13,7 +13,7 @@ use Rattle.breaking.specs.Breaking.{Limit, taken, greedy}
 use Rattle.breaking.specs.Calls.{written}
 use Rattle.breaking.specs.Steps.{Counted, cleared}
 use Rattle.breaking.proofs.Taken.{taken-le}
-use Rattle.breaking.proofs.Greedy.{greedy-none, greedy-more}
+use Rattle.breaking.proofs.Lines.{greedy-none, greedy-more}
 
 -- ---- the lines from an item on
 

@@ -1,4 +1,4 @@
 pub mod Taken
-pub mod Greedy
+pub mod Lines
 pub mod Line
 pub mod Counts

@@ -106,21 +106,28 @@ fn without_maximum(q: Query, available: AvailableSpace) -> AvailableSpace
     }
 }
 
-fn limit_of(q: Query) -> AvailableSpace
-    ensures { λ r. ⌜ r ≡ breakLimit q ⌝ }
+fn by_maximum(q: Query, maximum: Bound) -> AvailableSpace
+    ensures { λ r. ⌜ r ≡ byMaximum q maximum ⌝ }
 {
-    if !q.known_is_definite {
-        return AvailableSpace::MaxContent;
-    }
     let available = q.available;
     let minimum = q.minimum;
-    let maximum = q.maximum;
     match maximum {
         Bound::Absent => without_maximum(q, available),
         Bound::Given(high) => {
             let x = raise_to(minimum, under_maximum(q, high));
             AvailableSpace::Definite(grid::clean(x))
         }
+    }
+}
+
+fn limit_of(q: Query) -> AvailableSpace
+    ensures { λ r. ⌜ r ≡ breakLimit q ⌝ }
+{
+    let maximum = q.maximum;
+    if q.known_is_definite {
+        by_maximum(q, maximum)
+    } else {
+        AvailableSpace::MaxContent
     }
 }
 

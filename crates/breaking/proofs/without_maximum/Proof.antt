@@ -1,8 +1,6 @@
 -- `without_maximum` meets its contract. Assumes nothing.
-use mathlib.Core.Path.{sym, ap, _∙_}
-use Rattle.breaking.specs.declared.AvailableSpace.{AvailableSpace}
+use mathlib.Core.Path.{ap}
 use Rattle.breaking.specs.declared.AvailableSpace.the-variants.{Definite}
-use Rattle.breaking.specs.Limit.{withoutMaximum}
 use borrow.Author.Needs.{needs}
 use Rattle.breaking.proofs.without_maximum.Statement.{statement}
 use Rattle.breaking.proofs.without_maximum.Tie as tie
@@ -20,10 +18,7 @@ clean-requires c κs = search needs
 
 -- src/lib.rt:88:17
 returns : tie.Need-returns
-returns c =
-    let q = c .before .before .before .before .before .args .q in
-    ap Definite (c .clean .ensures)
-    ∙ sym (ap (λ (a : AvailableSpace). withoutMaximum q a) (c .before .before .before .available .given .1) ∙ ?)
+returns c = rw (c .before .before .before .available .given .1, c .before .if1 .taken) (ap Definite (c .clean .ensures))
 
 -- src/lib.rt:91:49
 clean-requires-2 : tie.Need-clean-requires-2
@@ -31,7 +26,7 @@ clean-requires-2 c κs = search needs
 
 -- src/lib.rt:91:17
 returns-2 : tie.Need-returns-2
-returns-2 c = ?
+returns-2 c = rw (c .before .before .before .before .available .given .1, c .before .before .if1 .left, c .before .if2 .taken) (ap Definite (c .clean2 .ensures))
 
 -- src/lib.rt:95:39
 enum-told : tie.Need-enum-told
