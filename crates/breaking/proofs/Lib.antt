@@ -2,3 +2,4 @@ pub mod Taken
 pub mod Lines
 pub mod Line
 pub mod Counts
+pub mod Accepted

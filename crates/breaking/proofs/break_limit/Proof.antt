@@ -1,3 +1,13 @@
+-- `break_limit` meets its contract: the least mark says what the checks say, and past them the limit is the definition's. Assumes nothing.
+use mathlib.Core.Path.{_≡_, sym, ap, ap₂, _∙_}
+use Prim.Native.Nat.{min}
+use Rattle.refusal.specs.declared.Verdict.{Verdict}
+use Rattle.refusal.specs.declared.Verdict.the-variants.{Passed}
+use Rattle.refusal.specs.Domain.{checked}
+use Rattle.refusal.specs.Marks.{judged}
+use Rattle.breaking.specs.declared.BreakLimit.the-variants.{Limit}
+use Rattle.breaking.specs.Limit.{limitInput, limitFrom}
+use Rattle.breaking.proofs.Accepted.{query-checked}
 use borrow.Author.Needs.{needs}
 use Rattle.breaking.proofs.break_limit.Statement.{statement}
 use Rattle.breaking.proofs.break_limit.Tie as tie
@@ -45,13 +55,25 @@ enum-told c = search needs
 limit-of-requires : tie.Need-limit-of-requires
 limit-of-requires c κs = search needs
 
+-- what the mark says is the verdict of the checks
+verdict : (c : tie.After-judge) → c .judge .result ≡ checked (limitInput (c .before .before .before .before .before .before .args .q)) Passed
+verdict c =
+    let q = c .before .before .before .before .before .before .args .q in
+    c .judge .ensures
+    ∙ ap judged (c .before .least2 .ensures ∙ ap₂ min (c .before .before .mark-space .ensures) (c .before .before .before .least .ensures ∙ ap₂ min (c .before .before .before .before .before .mark-bound .ensures) (c .before .before .before .before .mark-bound2 .ensures)))
+    ∙ query-checked q
+
 -- src/lib.rt:154:1
 returns : tie.Need-returns
-returns c = ?
+returns c =
+    let q = c .before .before .before .before .before .before .before .before .before .args .q in
+    sym (ap (λ (v : Verdict). limitFrom v q) (sym (verdict (c .before .before .before)) ∙ c .before .why .given .1))
 
 -- src/lib.rt:154:1
 returns-2 : tie.Need-returns-2
-returns-2 c = ?
+returns-2 c =
+    let q = c .before .before .before .before .before .before .before .before .before .args .q in
+    ap Limit (c .limit-of .ensures) ∙ sym (ap (λ (v : Verdict). limitFrom v q) (sym (verdict (c .before .before .before)) ∙ c .before .enum-told .given .1))
 
 pub break-limit-spec : {M : Type 1} → statement M
 break-limit-spec =

@@ -1,4 +1,8 @@
 -- `limit_of` meets its contract. Assumes nothing.
+use mathlib.Core.Path.{sym, ap, _∙_}
+use mathlib.Core.Bool.{Bool, cond}
+use Rattle.breaking.specs.declared.AvailableSpace.the-variants.{MaxContent}
+use Rattle.breaking.specs.Limit.{byMaximum}
 use borrow.Author.Needs.{needs}
 use Rattle.breaking.proofs.limit_of.Statement.{statement}
 use Rattle.breaking.proofs.limit_of.Tie as tie
@@ -12,7 +16,7 @@ by-maximum-requires c κs = search needs
 
 -- src/lib.rt:123:1
 returns : tie.Need-returns
-returns c = rw (c .before .if1 .taken) (c .by-maximum .ensures)
+returns c = let q = c .before .before .args .q in c .by-maximum .ensures ∙ sym (ap (λ (b : Bool). cond b (byMaximum q (q .maximum)) MaxContent) (c .before .if1 .taken))
 
 -- src/lib.rt:123:1
 returns-2 : tie.Need-returns-2

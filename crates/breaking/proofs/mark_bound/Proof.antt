@@ -1,5 +1,8 @@
 -- `mark_bound` meets its contract. Assumes nothing.
+use mathlib.Core.Path.{sym, _∙_}
+use Prim.Native.Nat.{zero-le}
 use Rattle.refusal.specs.Marks.{leastOf}
+use Rattle.refusal.proofs.Checks.{least-one}
 use borrow.Author.Needs.{needs}
 use Rattle.breaking.proofs.mark_bound.Statement.{statement}
 use Rattle.breaking.proofs.mark_bound.Tie as tie
@@ -31,8 +34,7 @@ returns c = rw (c .before .enum-told .given .1) (c .no-mark .ensures)
 
 -- src/lib.rt:144:1
 returns-2 : tie.Need-returns-2
-unfolding leastOf
-returns-2 c = rw (c .before .before .bound .given .1) ?
+returns-2 c = rw (c .before .before .bound .given .1) (c .mark-float .ensures ∙ sym (least-one _ 0 zero-le))
 
 pub mark-bound-spec : {M : Type 1} → statement M
 mark-bound-spec =

@@ -1,5 +1,8 @@
 -- `mark_space` meets its contract. Assumes nothing.
+use mathlib.Core.Path.{sym, _∙_}
+use Prim.Native.Nat.{zero-le}
 use Rattle.refusal.specs.Marks.{leastOf}
+use Rattle.refusal.proofs.Checks.{least-one}
 use borrow.Author.Needs.{needs}
 use Rattle.breaking.proofs.mark_space.Statement.{statement}
 use Rattle.breaking.proofs.mark_space.Tie as tie
@@ -34,8 +37,7 @@ no-mark-requires-2 c κs = search needs
 
 -- src/lib.rt:134:1
 returns : tie.Need-returns
-unfolding leastOf
-returns c = rw (c .before .before .limit .given .1) ?
+returns c = rw (c .before .before .limit .given .1) (c .mark-float .ensures ∙ sym (least-one _ 0 zero-le))
 
 -- src/lib.rt:134:1
 returns-2 : tie.Need-returns-2
