@@ -112,6 +112,9 @@ clear-more from i l cells h k e =
     more : i - from + 1 ≡ i + 1 - from
     more = omega arith
 
+pub counted-long : {lines before cells : List ℕ} {r : ℕ} → Counted lines before r cells → r ≤ length before → length cells ≡ length before
+counted-long {lines} {before} {cells} {r} c h = omega (arith, ap length (c .cells), length-append lines (drop r before), length-drop r before, c .number)
+
 -- both together: the answer list as the call leaves it
 pub all-written : (lines before cells : List ℕ) (r n : ℕ) → Counted lines before r cells → r ≤ n → cleared r n cells ≡ written n lines before
 all-written lines before cells r n c h =
