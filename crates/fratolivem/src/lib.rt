@@ -1,33 +1,35 @@
 // The calls that a host in C or C++ links (include/fratolivem.h). Enums do not cross, so kinds are codes here, and a code that names
 // nothing is refusal 5. Every call takes any bits; all else is inside.
 ghost use mathlib.Core.Path.{_≡_};
-ghost use Rattle.refusal.specs.Domain.{Where};
+ghost use Rattle.refusal.specs.Domain.{refusedAs, whereOf, refusalOf};
 ghost use Rattle.fratolivem.specs.Boundary.{crossed, cAnswer, spaceOf, greedyFromC};
 use breaking::AvailableSpace;
 use refusal::{Answer, Place, Refusal, Verdict};
 
-// An answer's number, its place, its lines and its rounds. place_kind: 0 nowhere, 1 the container, 2 the item, line or byte `place`.
+// An answer's number, its place, its lines and its rounds. `at` says where: 0 nowhere, 1 the container, 2 the item, line or byte `place`.
 #[repr(C)]
 pub struct CAnswer {
     pub number: u32,
-    pub place_kind: u32,
+    pub at: u32,
     pub place: u32,
     pub lines: u32,
     pub rounds: u32,
 }
 
-fn refused(number: u32, place: Place) -> CAnswer {
+fn refused(number: u32, place: Place) -> CAnswer
+    ensures { λ r. ⌜ r ≡ crossed (refusedAs number (whereOf place)) ⌝ }
+{
     match place {
         Place::Container => CAnswer {
             number,
-            place_kind: 1,
+            at: 1,
             place: 0,
             lines: 0,
             rounds: 0,
         },
         Place::At(i) => CAnswer {
             number,
-            place_kind: 2,
+            at: 2,
             place: i,
             lines: 0,
             rounds: 0,
@@ -35,7 +37,9 @@ fn refused(number: u32, place: Place) -> CAnswer {
     }
 }
 
-fn refusal_to_c(why: Refusal) -> CAnswer {
+fn refusal_to_c(why: Refusal) -> CAnswer
+    ensures { λ r. ⌜ r ≡ crossed (refusalOf why) ⌝ }
+{
     match why {
         Refusal::TooManyItems => refused(1, Place::Container),
         Refusal::TooLittleRoom => refused(2, Place::Container),
@@ -52,7 +56,7 @@ fn to_c(a: Answer) -> CAnswer
     match a {
         Answer::Done { lines, rounds } => CAnswer {
             number: 0,
-            place_kind: 0,
+            at: 0,
             place: 0,
             lines,
             rounds,
