@@ -1,5 +1,6 @@
 -- What crosses to C: numbers, slices and plain structs. An answer's four values, codes for what is an enum inside, and each exported call as
 -- the call inside it. Assumes nothing.
+use mathlib.Core.Path.{_≡_}
 use mathlib.Core.List.{List, [], _∷_}
 use Prim.Native.Nat.{ℕ, zero, suc}
 use lib.Dec.{leb}
@@ -47,3 +48,8 @@ abbrev pub greedyFromC : ℕ → Float → Float → List Float → List ℕ →
 greedyFromC kind limit gap sizes before =
     brokenInto (breakingVerdict (kindNumber kind) (spaceOf kind limit) gap sizes (leb (length sizes) (length before)))
     (greedy (limitOf (spaceOf kind limit)) (sixtyFourths gap) (units sizes)) (length sizes) before
+
+-- what a call leaves: the answer as it crosses, and the counts
+pub record Crossed (r : CAnswer) (counts : List ℕ) (b : Broken) : Type 0 where
+  pub answer : r ≡ cAnswer (b .answer)
+  pub cells : counts ≡ b .counts

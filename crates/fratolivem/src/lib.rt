@@ -2,9 +2,12 @@
 // nothing is refusal 5. Every call takes any bits; all else is inside.
 ghost use mathlib.Core.Path.{_≡_};
 ghost use Rattle.refusal.specs.Domain.{refusedAs, whereOf, refusalOf};
-ghost use Rattle.fratolivem.specs.Boundary.{crossed, cAnswer, spaceOf, greedyFromC};
+ghost use Rattle.fratolivem.specs.Boundary.{crossed, cAnswer, spaceOf, Crossed, greedyFromC};
 use breaking::AvailableSpace;
-use refusal::{Answer, Place, Refusal, Verdict};
+use refusal::Answer;
+use refusal::Place;
+use refusal::Refusal;
+use refusal::Verdict;
 
 // An answer's number, its place, its lines and its rounds. `at` says where: 0 nowhere, 1 the container, 2 the item, line or byte `place`.
 #[repr(C)]
@@ -84,7 +87,9 @@ pub extern "C" fn fratolivem_greedy(
     gap: f32,
     sizes: &[f32],
     counts: &mut [u32],
-) -> CAnswer {
+) -> CAnswer
+    ensures { λ r. ⌜ Crossed r (now (counts .exit)) (greedyFromC «limit_kind» limit gap (now (sizes .entry)) (now (counts .entry))) ⌝ }
+{
     let space = space_of(limit_kind, limit);
     if 2 < limit_kind {
         // No call inside knows such a kind: only the checks are run, and one of them refuses.
