@@ -1,12 +1,12 @@
 -- `clear_counts` meets its contract: the cells from `from` up to i are 0, the others as they were (Counts.antt). Assumes nothing.
 use mathlib.Core.Path.{_≡_, refl, ap, _∙_}
-use Prim.Native.Nat.{ℕ, _+_, _-_, _≤_, _<_}
+use Prim.Native.Nat.{ℕ, _-_, _≤_, _<_}
 use native.Mathlib.Nat.{le-refl, le-antisymm}
 use native.Mathlib.Omega.{arith}
 use mathlib.Core.List.{List}
 use lib.ListN.{length, length-set}
 use denote.Ref.{now}
-use borrow.Author.Needs.{needs, scaled-fits}
+use borrow.Author.Needs.{scaled-fits}
 use Rattle.breaking.specs.Steps.{cleared}
 use Rattle.breaking.proofs.Counts.{clear-none, clear-more}
 use Rattle.breaking.proofs.clear_counts.Statement.{statement}
