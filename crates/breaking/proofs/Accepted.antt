@@ -1,23 +1,22 @@
 -- The checks of breaking: the least of the marks that the calls take is document 01's order of checks on their input, and what a pass says.
 -- By the laws of refusals, part by part: codes, limit, gap, items. Assumes nothing.
-use mathlib.Core.Path.{_≡_, refl, sym, ap, ap₂, _∙_, subst}
-use mathlib.Core.Bool.{Bool, true, false, cond, _||_}
+use mathlib.Core.Path.{_≡_, refl, sym, ap, ap₂, _∙_}
+use mathlib.Core.Bool.{Bool, true, false}
 use mathlib.Core.List.{List, [], _∷_, _++_, append-nil}
-use Prim.Native.Nat.{ℕ, zero, suc, _+_, _-_, _≤_, _<_, min, zero-le}
-use native.Mathlib.Nat.{le-refl}
+use Prim.Native.Nat.{ℕ, _+_, _-_, _≤_, min, zero-le}
 use native.Mathlib.Omega.{arith}
-use lib.Dec.{leb, ltb, T}
+use lib.Dec.{leb, ltb}
 use lib.ListN.{length, getD}
 use lib.IntN.{pos}
 use lib.Ieee.{Float, nan}
-use borrow.Author.Tests.{le-ltb, ltb-true, ltb-false, leb-true, leb-false}
+use borrow.Author.Tests.{le-ltb, ltb-false, leb-true, leb-false}
 use Rattle.grid.specs.Grid.{Length, sixtyFourths}
 use Rattle.refusal.specs.declared.Kind.the-variants as kind
 use Rattle.refusal.specs.declared.Refusal.{Refusal}
 use Rattle.refusal.specs.declared.Verdict.{Verdict}
 use Rattle.refusal.specs.declared.Verdict.the-variants.{Passed, Refused}
-use Rattle.refusal.specs.Domain.{Number, float, code, notFinite, offGrid, outOfRange, Input, any, check, checked, shape, summed, then, orElse}
-use Rattle.refusal.specs.Marks.{mark, leastOf, leastUpTo, leastMark, judged, Lengths, Fine, AllFine, Sound}
+use Rattle.refusal.specs.Domain.{Number, float, code, notFinite, offGrid, outOfRange, any, check, checked, shape, summed, then, orElse}
+use Rattle.refusal.specs.Marks.{mark, leastOf, leastUpTo, leastMark, judged, Lengths, AllFine, Sound}
 use Rattle.refusal.proofs.Order.{least-ext}
 use Rattle.refusal.proofs.Checks.{judged-checked, least-append, least-one, then-passed, shape-passed, summed-passed, accepted, fine-append, fine-length, fine-size, fine-code}
 use Rattle.breaking.specs.declared.AvailableSpace.{AvailableSpace}

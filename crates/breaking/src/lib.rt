@@ -1,13 +1,13 @@
 // Breaking items into lines: the break limit, what fits, and greedy breaking (document 01, "Break limit" and "Breaking").
 ghost use mathlib.Core.Path.{_≡_};
-ghost use mathlib.Core.List.{List, []};
+ghost use mathlib.Core.List.{List};
 ghost use Prim.Native.Nat.{_≤_, _<_};
 ghost use lib.ListN.{length};
 ghost use lib.IntN.{ℤ};
-ghost use Rattle.grid.specs.Grid.{At, cleaned, sixtyFourths};
+ghost use Rattle.grid.specs.Grid.{At, sixtyFourths};
 ghost use Rattle.refusal.specs.Domain.{Number};
 ghost use Rattle.refusal.specs.Marks.{leastOf};
-ghost use Rattle.breaking.specs.Limit.{lowered, raised, raisedTo, numberOr, underMaximum, withoutMaximum, byMaximum, breakLimit, spaceNumbers, boundNumbers, limitCall};
+ghost use Rattle.breaking.specs.Limit.{lowered, raised, raisedTo, numberOr, underMaximum, keepsSpace, withoutMaximum, byMaximum, breakLimit, spaceNumbers, boundNumbers, limitCall};
 ghost use Rattle.breaking.specs.Breaking.{limitOf, fits, greedy};
 ghost use Rattle.breaking.specs.Calls.{breakingVerdict, units, broken, greedyCall};
 ghost use Rattle.breaking.specs.Steps.{LengthLimit, Breakable, LineEnd, Counted, cleared};
@@ -88,18 +88,23 @@ fn under_maximum(q: Query, maximum: f32) -> f32
     }
 }
 
+// A column without a definite main size does not keep a definite space.
+fn keeps_space(q: Query) -> bool
+    ensures { λ r. ⌜ r ≡ keepsSpace q ⌝ }
+{
+    if q.is_row { true } else { q.main_is_definite }
+}
+
 fn without_maximum(q: Query, available: AvailableSpace) -> AvailableSpace
     ensures { λ r. ⌜ r ≡ withoutMaximum q available ⌝ }
 {
     match available {
         AvailableSpace::Definite(x) => {
-            if q.is_row {
-                return AvailableSpace::Definite(grid::clean(x));
+            if keeps_space(q) {
+                AvailableSpace::Definite(grid::clean(x))
+            } else {
+                AvailableSpace::MaxContent
             }
-            if q.main_is_definite {
-                return AvailableSpace::Definite(grid::clean(x));
-            }
-            AvailableSpace::MaxContent
         }
         AvailableSpace::MinContent => AvailableSpace::MinContent,
         AvailableSpace::MaxContent => AvailableSpace::MaxContent,
@@ -114,8 +119,8 @@ fn by_maximum(q: Query, maximum: Bound) -> AvailableSpace
     match maximum {
         Bound::Absent => without_maximum(q, available),
         Bound::Given(high) => {
-            let x = raise_to(minimum, under_maximum(q, high));
-            AvailableSpace::Definite(grid::clean(x))
+            let number = raise_to(minimum, under_maximum(q, high));
+            AvailableSpace::Definite(grid::clean(number))
         }
     }
 }
