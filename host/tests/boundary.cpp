@@ -9,20 +9,12 @@
 
 #include "fratolivem.hpp"
 #include "lent.hpp"
+#include "lists.hpp"
 #include "model.hpp"
 
 namespace {
 
-using Sizes = std::vector<float>;
-
 long calls = 0, bad = 0;
-
-struct Call {
-    uint32_t kind;
-    float limit, gap;
-    uint32_t minimum;
-    Sizes sizes;
-};
 
 std::string shown(const Call &c) {
     char text[96];
@@ -227,6 +219,20 @@ void lengths() {
     a = fratolivem_balanced(0, 1, 0, 1, many.data(), many.size(), nullptr, 0, nullptr, 0, nullptr, 0);
     expect(a.number == 1 && a.where == FRATOLIVEM_CONTAINER, "balanced of 70,000 items", {});
     calls += 6;
+
+    // So many that n*n is no size_t, on pages that nobody may read: check 1 comes before any look at a size.
+    const std::size_t beyond = std::size_t(1) << 32;
+    void *unread = mmap(nullptr, beyond * sizeof(float), PROT_NONE, MAP_PRIVATE | MAP_ANONYMOUS | MAP_NORESERVE, -1, 0);
+    if (unread == MAP_FAILED) {
+        std::puts("boundary: no room for a list of 2^32 sizes; not tried");
+        return;
+    }
+    a = fratolivem_balanced(0, 1, 0, 1, static_cast<float *>(unread), beyond, cell, 4, nullptr, 0, nullptr, 0);
+    expect(a.number == 1 && a.where == FRATOLIVEM_CONTAINER, "balanced of 2^32 items", {});
+    a = fratolivem_greedy(0, 1, 0, static_cast<float *>(unread), beyond, cell, 4);
+    expect(a.number == 1 && a.where == FRATOLIVEM_CONTAINER && cell[0] == 9, "greedy of 2^32 items", {});
+    calls += 2;
+    munmap(unread, beyond * sizeof(float));
 }
 
 // Check 6 at its border: the sum counts n gaps, magnitudes, and the sizes as they are before negative ones read as 0.
@@ -264,26 +270,6 @@ void break_limits() {
                                         expect(same, "break limit: available, minimum as gap, maximum as size",
                                                {kind, available, minimum, known + 10 * main + 100 * row + 1000 * has_minimum + 10000 * has_maximum, {maximum}});
                                     }
-}
-
-// Lists that make ties, zero items, negative sizes and lines that are exactly full likely.
-Call random_call(std::mt19937_64 &random, std::size_t longest) {
-    const auto below = [&](uint64_t n) { return random() % n; };
-    const std::size_t n = below(longest + 1);
-    const int scale = int(1 + below(6)), unit = std::array{1, 64, 37}[below(3)];
-    Call c{uint32_t(below(8) ? (below(3) ? 0 : 2) : 1), 0, float(below(2) ? 0 : int(below(3)) * unit) / 64, uint32_t(below(3) ? 1 : below(n + 3)), {}};
-    double sum = 0;
-    for (std::size_t i = 0; i < n; i++) {
-        int size = int(below(uint64_t(scale) * 3)) * unit;
-        if (below(4) == 0) size = 0;
-        if (below(12) == 0) size = -size;
-        c.sizes.push_back(float(size) / 64);
-        sum += size > 0 ? size : 0;
-    }
-    const double lines = double(1 + below(n + 1));
-    c.limit = float(std::floor(sum / lines + double(below(uint64_t(3 * unit))))) / 64;
-    if (below(40) == 0) c.limit = -c.limit;
-    return c;
 }
 
 void random_lists(uint64_t seed, long lists) {
