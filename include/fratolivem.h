@@ -3,7 +3,8 @@
  * Any bits may be handed in: a call answers or refuses, and never goes wrong over a number. What a host must see to:
  *  - a list is a pointer and a number of cells; a list of 0 cells may be NULL;
  *  - the lists of one call do not overlap;
- *  - the numbers of cells are true.
+ *  - the numbers of cells are true;
+ *  - floats are in the default mode: rounded to nearest, subnormals not flushed to zero (no FTZ or DAZ on the calling thread).
  *
  * Lengths are pixels, whole multiples of 1/64, of at most 262,144 px either way; -0.0 reads as 0, and no answer is -0.0.
  * Sizes and limits may be negative, gaps may not. The sum over the items of (|size| + gap) is at most 262,144 px.
