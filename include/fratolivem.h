@@ -84,7 +84,7 @@ fratolivem_answer fratolivem_balanced_parts(uint32_t limit_kind, float limit, fl
                                             double *sums, size_t sums_len, double *prev, size_t prev_len, double *cur,
                                             size_t cur_len);
 
-/* The work cells that balanced breaking of n items asks for. Above 1,024 items none do: it is refused. */
+/* The work cells that balanced breaking of n items asks for: none above 1,024 items, which are refused whatever is lent. */
 static inline size_t fratolivem_work_cells(size_t n) { return n > FRATOLIVEM_MOST_ITEMS ? 0 : n * n + 3 * n; }
 static inline size_t fratolivem_sum_cells(size_t n) { return n > FRATOLIVEM_MOST_ITEMS ? 0 : 3 * n; }
 
