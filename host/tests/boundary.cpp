@@ -1,141 +1,15 @@
-// Boundary tests over fratolivem.h and fratolivem.hpp: every call is compared with the model, answer, place and each lent cell.
+// Boundary tests over fratolivem.h and fratolivem.hpp: which inputs are tried. calls.hpp makes and compares the calls.
 // boundary [SEED] [LISTS]
-#include <algorithm>
 #include <array>
 #include <chrono>
 #include <cinttypes>
 #include <cstdio>
-#include <string>
+#include <cstdlib>
 
+#include "calls.hpp"
 #include "fratolivem.hpp"
-#include "lent.hpp"
-#include "lists.hpp"
-#include "model.hpp"
 
 namespace {
-
-long calls = 0, bad = 0;
-
-std::string shown(const Call &c) {
-    char text[96];
-    std::snprintf(text, sizeof text, "kind %u limit %a [%08x] gap %a [%08x] minimum %u n %zu:", c.kind, double(c.limit),
-                  model::bits(c.limit), double(c.gap), model::bits(c.gap), c.minimum, c.sizes.size());
-    std::string all = text;
-    for (std::size_t i = 0; i < c.sizes.size() && i < 40; i++) {
-        std::snprintf(text, sizeof text, " %g", double(c.sizes[i]));
-        all += text;
-    }
-    return all;
-}
-
-void expect(bool ok, const char *what, const Call &c) {
-    if (ok) return;
-    if (++bad <= 20) std::printf("DIFFERS: %s; %s\n", what, shown(c).c_str());
-}
-
-float of_bits(uint32_t bits) {
-    float x;
-    std::memcpy(&x, &bits, sizeof x);
-    return x;
-}
-
-constexpr std::size_t most = 1100;
-Lent<float> sizes(most);
-Lent<uint32_t> counts(most), work(1024 * 1024 + 4 * most), fit(most), lines_left(most), reach(most);
-Lent<double> sums(4 * most), prev(most), cur(most);
-
-Stand any_stand() { return std::array{Stand::between_canaries, Stand::before_a_page, Stand::after_a_page}[dirt() % 3]; }
-
-// Cells lent beyond those that are named; -1 is a list too short by one cell.
-struct Extra {
-    int counts = 0, work = 0, sums = 0;
-};
-
-std::size_t with(std::size_t cells, int extra) { return extra < 0 && cells == 0 ? 0 : cells + std::size_t(extra); }
-
-struct Expected {
-    model::Refusal refusal;
-    model::Counts counts;
-};
-
-void compare(const char *what, const Call &c, const fratolivem_answer &a, const Expected &e) {
-    calls++;
-    expect(a.number == e.refusal.number, (std::string(what) + ": the number is " + std::to_string(a.number) + " and not " +
-                                          std::to_string(e.refusal.number)).c_str(), c);
-    expect(a.where == e.refusal.where && a.place == e.refusal.place, (std::string(what) + ": place").c_str(), c);
-    expect(a.lines == e.counts.size() && a.rounds == 0, (std::string(what) + ": lines or rounds").c_str(), c);
-    expect(sizes.kept(), "the sizes were changed", c);
-    if (e.refusal.number) {
-        expect(counts.kept(), "a refusal changed the counts", c);
-        return;
-    }
-    const std::size_t n = c.sizes.size();
-    bool same = true;
-    for (std::size_t i = 0; i < n; i++) same = same && counts.data()[i] == (i < e.counts.size() ? e.counts[i] : 0);
-    expect(same, (std::string(what) + ": counts").c_str(), c);
-    expect(counts.kept_from(n), "cells past the named counts were changed", c);
-}
-
-Expected expected(const Call &c, bool room, bool balanced) {
-    Expected e{model::check_breaking(c.kind, c.limit, c.gap, c.sizes, room), {}};
-    if (e.refusal.number) return e;
-    const model::Items items(c.kind, c.limit, c.gap, c.sizes, balanced);
-    e.counts = balanced ? model::balanced(items, c.minimum) : model::greedy(items);
-    return e;
-}
-
-void greedy(const Call &c, Extra x = {}) {
-    sizes.lend(c.sizes, any_stand());
-    counts.lend(with(c.sizes.size(), x.counts), any_stand());
-    const auto a = fratolivem_greedy(c.kind, c.limit, c.gap, sizes.data(), sizes.size(), counts.data(), counts.size());
-    compare("greedy", c, a, expected(c, counts.size() >= c.sizes.size(), false));
-}
-
-void balanced(const Call &c, Extra x = {}) {
-    const std::size_t n = c.sizes.size(), m = n > 1024 ? 0 : n, work_named = m * m + 3 * m, sums_named = 3 * m;
-    sizes.lend(c.sizes, any_stand());
-    counts.lend(with(n, x.counts), any_stand());
-    work.lend(with(work_named, x.work), any_stand());
-    sums.lend(with(sums_named, x.sums), any_stand());
-    const auto a = fratolivem_balanced(c.kind, c.limit, c.gap, c.minimum, sizes.data(), n, counts.data(), counts.size(),
-                                       work.data(), work.size(), sums.data(), sums.size());
-    const bool room = counts.size() >= n && work.size() >= work_named && sums.size() >= sums_named;
-    compare("balanced", c, a, expected(c, room, true));
-    const bool accepted = a.number == 0;
-    expect(work.zero_up_to(accepted ? work_named : 0) && sums.zero_up_to(accepted ? sums_named : 0), "work cells are not 0", c);
-    expect(work.kept_from(accepted ? work_named : 0) && sums.kept_from(accepted ? sums_named : 0), "other work cells were changed", c);
-}
-
-void both(const Call &c, Extra x = {}) {
-    greedy(c, x);
-    balanced(c, x);
-}
-
-// The call that the header cuts the work cells for, each of its lists short by one in turn.
-void parts(const Call &c) {
-    const std::size_t n = c.sizes.size();
-    for (int shorter = 0; shorter <= 8; shorter++) {
-        const auto cells = [&](int list, std::size_t named) { return shorter == list && named ? named - 1 : named; };
-        sizes.lend(c.sizes, any_stand());
-        counts.lend(cells(1, n), any_stand());
-        work.lend(cells(2, n * n), any_stand());
-        Lent<uint32_t> *u[] = {&fit, &lines_left, &reach};
-        Lent<double> *d[] = {&sums, &prev, &cur};
-        for (int i = 0; i < 3; i++) u[i]->lend(cells(3 + i, n), any_stand()), d[i]->lend(cells(6 + i, n), any_stand());
-        const auto a = fratolivem_balanced_parts(
-            c.kind, c.limit, c.gap, c.minimum, sizes.data(), n, counts.data(), counts.size(), work.data(), work.size(), fit.data(),
-            fit.size(), lines_left.data(), lines_left.size(), reach.data(), reach.size(), sums.data(), sums.size(), prev.data(),
-            prev.size(), cur.data(), cur.size());
-        compare("parts", c, a, expected(c, shorter == 0 || n == 0, true));
-        const std::size_t done = a.number ? 0 : n;
-        bool zero = work.zero_up_to(done * n), kept = work.kept_from(done * n);
-        for (int i = 0; i < 3; i++) {
-            zero = zero && u[i]->zero_up_to(done) && d[i]->zero_up_to(done);
-            kept = kept && u[i]->kept_from(done) && d[i]->kept_from(done);
-        }
-        expect(zero && kept, "parts: work cells", c);
-    }
-}
 
 void examples() {
     const float inf = INFINITY; // stands for max-content in this table
@@ -154,8 +28,8 @@ void examples() {
         const bool definite = row.limit != inf;
         const Call c{definite ? 0u : 2u, definite ? row.limit : 0.0f, row.gap, row.minimum, row.sizes};
         expect(expected(c, true, true).counts == row.counts, "the model differs from document 01", c);
-        both(c);
-        parts(c);
+        try_both(c);
+        try_parts(c);
     }
     const Call p5{0, 150, 0, 1, {50, 50, 50, 10}};
     expect(expected(p5, true, false).counts == model::Counts{3, 1}, "the model's greedy differs from document 01", p5);
@@ -178,14 +52,14 @@ void numbers() {
                     const int pairs[7][2] = {{0, 1}, {0, 2}, {1, 3}, {1, 4}, {2, 4}, {3, 2}, {0, 4}};
                     *at[pairs[places][0]] = of_bits(one);
                     *at[pairs[places][1]] = of_bits(two);
-                    both(c);
+                    try_both(c);
                 }
     for (std::size_t n : {1, 64, 1024})
         for (std::size_t at : {std::size_t(0), n / 2, n - 1})
             for (uint32_t pattern : patterns) {
                 Call c{0, 50, 0, 1, Sizes(n, 1.0f)};
                 c.sizes[at] = of_bits(pattern);
-                both(c);
+                try_both(c);
             }
 }
 
@@ -197,10 +71,10 @@ void lengths() {
                     Call c{kind, 200, 0.5f, 12, Sizes(n, size)};
                     if (n > 3) c.sizes[n / 3] = 7;
                     const Extra extras[] = {{}, {-1, 0, 0}, {0, -1, 0}, {0, 0, -1}, {3, 5, 7}};
-                    both(c, extras[shorter]);
+                    try_both(c, extras[shorter]);
                 }
     for (std::size_t n : {0, 1, 3, 63, 64, 200})
-        for (float size : {3.0f, 0.1f, NAN}) parts({0, 40, 1, 3, Sizes(n, size)});
+        for (float size : {3.0f, 0.1f, NAN}) try_parts({0, 40, 1, 3, Sizes(n, size)});
 
     // A list of no cells may be NULL, also where cells were wanted, and sizes in number too many to square.
     fratolivem_answer a = fratolivem_greedy(0, 1, 0, nullptr, 0, nullptr, 0);
@@ -238,51 +112,46 @@ void lengths() {
 // Check 6 at its border: the sum counts n gaps, magnitudes, and the sizes as they are before negative ones read as 0.
 void sums_at_the_border() {
     for (float over : {0.0f, 0.015625f}) {
-        both({2, 0, 0, 1, {262144.0f - over, over, over}});
-        both({2, 0, over, 1, {262144.0f}});
-        both({0, 5, 256, 1, Sizes(1023, 0.0f)});
-        both({0, 5, 256, 1, Sizes(1024, over)});
-        both({0, -5, 255.984375f, 1, Sizes(1024, -over)});
-        both({0, 5, 0, 3, {-131072, 131072, over, -over}});
-        both({1, NAN, 0, 3, {-131072, -131072 - over}});
+        try_both({2, 0, 0, 1, {262144.0f - over, over, over}});
+        try_both({2, 0, over, 1, {262144.0f}});
+        try_both({0, 5, 256, 1, Sizes(1023, 0.0f)});
+        try_both({0, 5, 256, 1, Sizes(1024, over)});
+        try_both({0, -5, 255.984375f, 1, Sizes(1024, -over)});
+        try_both({0, 5, 0, 3, {-131072, 131072, over, -over}});
+        try_both({1, NAN, 0, 3, {-131072, -131072 - over}});
     }
 }
 
+// Every flag, kind and bound with every other; a third value of a flag is a code that no row names.
 void break_limits() {
     const float values[] = {0.0f, -0.0f, 100, -40, 60.5f, 262144, 262144.03125f, 0.01f, NAN, of_bits(0x7f800001), -INFINITY};
-    const uint32_t flags[] = {0, 1, 2};
-    for (uint32_t known : flags)
-        for (uint32_t main : flags)
-            for (uint32_t row : flags)
-                for (uint32_t has_minimum : flags)
-                    for (uint32_t has_maximum : flags)
-                        for (uint32_t kind : {0u, 1u, 2u, 3u, 0xffffffffu})
-                            for (float available : values)
-                                for (float minimum : values)
-                                    for (float maximum : values) {
-                                        const model::Query q{known, main, row, kind, available, has_minimum, minimum, has_maximum, maximum};
-                                        const auto e = model::break_limit(q);
-                                        const auto a = fratolivem_break_limit(known, main, row, kind, available, has_minimum, minimum,
-                                                                              has_maximum, maximum);
-                                        calls++;
-                                        const bool same = a.number == e.number && a.where == e.where && a.place == e.place &&
-                                                          a.kind == e.kind && model::bits(a.limit) == model::bits(e.limit);
-                                        expect(same, "break limit: available, minimum as gap, maximum as size",
-                                               {kind, available, minimum, known + 10 * main + 100 * row + 1000 * has_minimum + 10000 * has_maximum, {maximum}});
-                                    }
+    const uint32_t kinds[] = {0, 1, 2, 3, 0xffffffff};
+    const std::size_t all = 3 * 3 * 3 * 3 * 3 * std::size(kinds) * std::size(values) * std::size(values) * std::size(values);
+    for (std::size_t i = 0; i < all; i++) {
+        std::size_t rest = i;
+        const auto next = [&](std::size_t choices) {
+            const std::size_t choice = rest % choices;
+            rest /= choices;
+            return choice;
+        };
+        const auto flag = [&] { return uint32_t(next(3)); };
+        const auto value = [&] { return values[next(std::size(values))]; };
+        const model::Query q{flag(), flag(), flag(), kinds[next(std::size(kinds))], value(), flag(), value(), flag(), value()};
+        try_break_limit(q);
+    }
 }
 
 void random_lists(uint64_t seed, long lists) {
     std::mt19937_64 random(seed);
     for (long i = 0; i < lists; i++) {
         const Call c = random_call(random, i % 200 == 0 ? 1024 : i % 8 == 0 ? 64 : 12);
-        both(c, {int(random() % 3), int(random() % 3), int(random() % 3)});
+        try_both(c, {int(random() % 3), int(random() % 3), int(random() % 3)});
         if (c.sizes.size() && c.sizes.size() <= 12 && c.kind != 1) {
             const model::Items items(c.kind, c.limit, c.gap, c.sizes, true);
             expect(model::balanced_by_table(items, model::line_count(items, c.minimum)) == model::balanced(items, c.minimum),
                    "the model's two readings of the rule", c);
         }
-        if (i % 50 == 0 && c.sizes.size() <= 64) parts(c);
+        if (i % 50 == 0 && c.sizes.size() <= 64) try_parts(c);
     }
 }
 

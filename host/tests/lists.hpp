@@ -21,7 +21,9 @@ inline Call random_call(std::mt19937_64 &random, std::size_t longest) {
     const auto below = [&](uint64_t n) { return random() % n; };
     const std::size_t n = below(longest + 1);
     const int scale = int(1 + below(6)), unit = std::array{1, 64, 37}[below(3)];
-    Call c{uint32_t(below(8) ? (below(3) ? 0 : 2) : 1), 0, float(below(2) ? 0 : int(below(3)) * unit) / 64, uint32_t(below(3) ? 1 : below(n + 3)), {}};
+    const uint32_t kind = std::array{0u, 0u, 0u, 0u, 0u, 2u, 2u, 1u}[below(8)];
+    const float gap = float(below(2) ? 0 : int(below(3)) * unit) / 64;
+    Call c{kind, 0, gap, uint32_t(below(3) ? 1 : below(n + 3)), {}};
     double sum = 0;
     for (std::size_t i = 0; i < n; i++) {
         int size = int(below(uint64_t(scale) * 3)) * unit;
