@@ -9,7 +9,13 @@ use lib.ListN.{length}
 use lib.Ieee.{Float, binary32, ofBits}
 use Rattle.grid.specs.Grid.{sixtyFourths}
 use Rattle.refusal.specs.Domain.{Number, code, Where, nowhere, at-container, at-item, Paper, paper, refusalOf}
+use Rattle.refusal.specs.declared.Refusal.{Refusal}
+use Rattle.refusal.specs.declared.Verdict.{Verdict}
+use Rattle.refusal.specs.declared.Verdict.the-variants.{Passed}
+use Rattle.refusal.specs.declared.Verdict.the-variants as verdict
 use Rattle.refusal.specs.declared.Answer.{Answer}
+use Rattle.refusal.specs.declared.Answer.the-variants.{Done}
+use Rattle.refusal.specs.declared.Answer.the-variants as answer
 use Rattle.breaking.specs.declared.AvailableSpace.{AvailableSpace}
 use Rattle.breaking.specs.declared.AvailableSpace.the-variants.{Definite, MinContent, MaxContent}
 use Rattle.breaking.specs.declared.Bound.{Bound}
@@ -21,6 +27,7 @@ use Rattle.breaking.specs.declared.BreakLimit.the-variants as limit
 use Rattle.breaking.specs.Limit.{limitVerdict, limitFrom}
 use Rattle.breaking.specs.Breaking.{limitOf, greedy}
 use Rattle.breaking.specs.Calls.{breakingVerdict, units, Broken, brokenInto}
+use Rattle.balance.specs.Calls.{Lent, hasRoom, Divides}
 use Rattle.fratolivem.specs.declared.CAnswer.{CAnswer}
 use Rattle.fratolivem.specs.declared.CLimit.{CLimit}
 
@@ -114,3 +121,13 @@ cLimit (limit.Refused why) = cRefused (crossed (refusalOf why))
 
 abbrev pub limitFromC : Asked → CLimit
 limitFromC a = cLimit (limitFrom (limitVerdict (askedCodes a) (queryOf a)) (queryOf a))
+
+-- ---- balanced breaking from C
+
+abbrev pub balancedFromC : ℕ → Float → Float → List Float → Lent → Verdict
+balancedFromC kind limit gap sizes before = breakingVerdict (kindNumber kind) (spaceOf kind limit) gap sizes (hasRoom (length sizes) before)
+
+-- the call inside, with the kind's code among the numbers that are checked
+pub record BalancedFromC (kind : ℕ) (limit gap : Float) (minimum : ℕ) (sizes : List Float) (before : Lent) (r : CAnswer) (after : Lent) : Type 0 where
+  pub refused : (why : Refusal) → balancedFromC kind limit gap sizes before ≡ verdict.Refused why → (r ≡ cAnswer (answer.Refused why)) × (after ≡ before)
+  pub accepted : balancedFromC kind limit gap sizes before ≡ Passed → (lines : ℕ) × (r ≡ cAnswer (Done lines 0)) × Divides (spaceOf kind limit) gap minimum sizes before lines after
