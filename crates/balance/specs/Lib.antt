@@ -1,0 +1,12 @@
+pub mod Rule
+pub mod Balance
+pub mod Dp
+pub mod Ends
+pub mod Sizes
+pub mod Whole
+pub mod Cells
+pub mod Tables
+pub mod Program
+pub mod Reading
+pub mod Pixels
+pub mod Space
