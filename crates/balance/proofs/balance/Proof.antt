@@ -8,7 +8,7 @@ use Rattle.balance.proofs.balance.Statement.{statement}
 use Rattle.balance.proofs.balance.Tie as tie
 
 -- the tables, where the rows are called
-made : (c : tie.After-rows-arg6) → Made (c .before .before .before .before .before .before .before .before .before .before .before .before .before .before .before .before .before .before .before .before .before .before .before .before .before .before .before .before .before .before .before .before .before .before .before .before .before .args .sums .now) (c .before .before .before .before .before .before .before .before .before .before .before .before .before .before .before .before .before .before .before .before .before .before .before .before .before .before .before .before .before .before .before .before .before .before .before .before .before .args .gap) (c .before .before .before .before .before .before .before .before .before .before .before .before .before .before .before .before .before .before .before .before .before .before .before .before .before .before .before .before .before .before .before .before .before .before .before .before .before .args .bounded) (c .before .before .before .before .before .before .before .before .before .before .before .before .before .before .before .before .before .before .before .before .before .before .before .before .before .before .before .before .before .before .before .before .before .before .before .before .before .args .limit) (c .before .before .before .before .before .before .before .before .before .before .before .before .before .before .before .before .before .before .before .before .before .before .before .before .before .before .before .before .before .before .before .before .before .before .before .before .before .args .minimum) (c .before .before .before .before .before .before .before .before .first-row .last .1 .1 .0) (c .before .before .before .before .before .before .before .before .before .before .before .before .before .before .before .before .before .before .before .before .before .before .before .before .before .before .before .fit-ends .last .1 .1 .1 .1 .0) (c .before .before .before .before .before .before .before .before .before .before .before .before .before .before .before .before .before .before .before .before .before .before .suffix-greedy .last .1 .0) (c .before .before .before .before .before .before .before .before .before .before .before .before .forward .last .1 .0) (c .before .before .before .before .before .before .before .before .before .before .before .before .before .before .before .larger2 .result)
+made : (c : tie.After-rows-arg6) → Made (c .before .before .before .before .before .before .before .before .before .before .before .before .before .before .before .before .before .before .before .before .before .before .before .before .before .before .before .before .before .before .before .before .before .before .before .before .before .args .sums .now) (c .before .before .before .before .before .before .before .before .before .before .before .before .before .before .before .before .before .before .before .before .before .before .before .before .before .before .before .before .before .before .before .before .before .before .before .before .before .args .gap .0) (c .before .before .before .before .before .before .before .before .before .before .before .before .before .before .before .before .before .before .before .before .before .before .before .before .before .before .before .before .before .before .before .before .before .before .before .before .before .args .bounded) (c .before .before .before .before .before .before .before .before .before .before .before .before .before .before .before .before .before .before .before .before .before .before .before .before .before .before .before .before .before .before .before .before .before .before .before .before .before .args .limit .0) (c .before .before .before .before .before .before .before .before .before .before .before .before .before .before .before .before .before .before .before .before .before .before .before .before .before .before .before .before .before .before .before .before .before .before .before .before .before .args .minimum) (c .before .before .before .before .before .before .before .before .first-row .last .1 .1 .0) (c .before .before .before .before .before .before .before .before .before .before .before .before .before .before .before .before .before .before .before .before .before .before .before .before .before .before .before .fit-ends .last .1 .1 .1 .1 .0) (c .before .before .before .before .before .before .before .before .before .before .before .before .before .before .before .before .before .before .before .before .before .before .suffix-greedy .last .1 .0) (c .before .before .before .before .before .before .before .before .before .before .before .before .forward .last .1 .0) (c .before .before .before .before .before .before .before .before .before .before .before .before .before .before .before .larger2 .result)
 made c =
     let st = c .before .before .before .before .before .before .before .before .before .before .before .before .before .before .before .before .before .before .before .before .before .before .before .before .before .before .before .before .before .before .before .before .before .before .before .before .before in
     let q = st .pre .1 in
@@ -35,7 +35,7 @@ suffix-greedy-requires c κs =
     let a = st .args in
     let fe = c .before .before .before .before .fit-ends in
     let fl : length (fe .last .1 .1 .1 .1 .0) ≡ length (a .sums .now) = fe .kept .1 .1 .1 .1 .0 ∙ st .pre .1 .2 in
-    (omega (arith, fl, st .pre .1 .3), omega (arith, fl, st .pre .0 .2), fit-range (a .sums .now) (a .gap) (a .bounded) (a .limit) (fe .last .1 .1 .1 .1 .0) (fe .ensures) fl)
+    (omega (arith, fl, st .pre .1 .3), omega (arith, fl, st .pre .0 .2), fit-range (a .sums .now) (a .gap .0) (a .bounded) (a .limit .0) (fe .last .1 .1 .1 .1 .0) (fe .ensures) fl)
 
 at-requires : tie.Need-at-requires
 at-requires c κs = search needs
@@ -59,8 +59,8 @@ forward-requires c κs =
     let gl : length (sg .last .1 .0) ≡ length (a .sums .now) = sg .kept .1 .0 ∙ st .pre .1 .3 in (
       omega (arith, fl, st .pre .1 .4),
       omega (arith, fl, st .pre .0 .2),
-      fit-range (a .sums .now) (a .gap) (a .bounded) (a .limit) (fe .last .1 .1 .1 .1 .0) (fe .ensures) fl,
-      fit-rising (a .sums .now) (a .gap) (a .bounded) (a .limit) (fe .last .1 .1 .1 .1 .0) (sg .last .1 .0) fl gl (fe .ensures) (st .pre .0 .0),
+      fit-range (a .sums .now) (a .gap .0) (a .bounded) (a .limit .0) (fe .last .1 .1 .1 .1 .0) (fe .ensures) fl,
+      fit-rising (a .sums .now) (a .gap .0) (a .bounded) (a .limit .0) (fe .last .1 .1 .1 .1 .0) (sg .last .1 .0) fl gl (fe .ensures) (st .pre .0 .0),
     )
 
 first-row-requires : tie.Need-first-row-requires
@@ -76,11 +76,11 @@ rows-requires c κs =
     let reach = c .before .before .before .before .before .before .before .before .before .before .before .before .forward .last .1 .0 in
     let K = c .before .before .before .before .before .before .before .before .before .before .before .before .before .before .before .larger2 .result in
     let m = made c in (
-      row-base (a .sums .now) (a .gap) (a .bounded) (a .limit) (a .minimum) prev fit greedy reach K m (st .pre .0 .0),
+      row-base (a .sums .now) (a .gap .0) (a .bounded) (a .limit .0) (a .minimum) prev fit greedy reach K m (st .pre .0 .0),
       omega (arith, st .pre .1 .1, m .prev-length),
-      K-lo (a .sums .now) (a .gap) (a .bounded) (a .limit) (a .minimum) prev fit greedy reach K m,
-      omega (arith, K-hi (a .sums .now) (a .gap) (a .bounded) (a .limit) (a .minimum) prev fit greedy reach K m, m .prev-length),
-      rows-room (a .sums .now) (a .gap) (a .bounded) (a .limit) (a .minimum) prev fit greedy reach K m (length prev) (length (a .opts .now)) (m .prev-length) (st .pre .1 .5),
+      K-lo (a .sums .now) (a .gap .0) (a .bounded) (a .limit .0) (a .minimum) prev fit greedy reach K m,
+      omega (arith, K-hi (a .sums .now) (a .gap .0) (a .bounded) (a .limit .0) (a .minimum) prev fit greedy reach K m, m .prev-length),
+      rows-room (a .sums .now) (a .gap .0) (a .bounded) (a .limit .0) (a .minimum) prev fit greedy reach K m (length prev) (length (a .opts .now)) (m .prev-length) (st .pre .1 .5),
     )
 
 read-back-requires : tie.Need-read-back-requires
@@ -96,13 +96,13 @@ read-back-requires c κs =
     let m = made d in
     let ro = c .before .before .before .before .before .before .before .before .rows in
     let opts = ro .last .1 .1 .1 .1 .1 .1 .1 .0 in
-    let top = K-hi (a .sums .now) (a .gap) (a .bounded) (a .limit) (a .minimum) prev fit greedy reach K m in (
-      readable (a .sums .now) (a .gap) (a .bounded) (a .limit) (a .minimum) prev fit greedy reach K m (ro .last .1 .1 .1 .1 .1 .0) opts (ro .ensures) (st .pre .0 .0),
+    let top = K-hi (a .sums .now) (a .gap .0) (a .bounded) (a .limit .0) (a .minimum) prev fit greedy reach K m in (
+      readable (a .sums .now) (a .gap .0) (a .bounded) (a .limit .0) (a .minimum) prev fit greedy reach K m (ro .last .1 .1 .1 .1 .1 .0) opts (ro .ensures) (st .pre .0 .0),
       st .pre .0 .2,
-      K-lo (a .sums .now) (a .gap) (a .bounded) (a .limit) (a .minimum) prev fit greedy reach K m,
+      K-lo (a .sums .now) (a .gap .0) (a .bounded) (a .limit .0) (a .minimum) prev fit greedy reach K m,
       top,
       omega (arith, top, st .pre .1 .6),
-      rows-room (a .sums .now) (a .gap) (a .bounded) (a .limit) (a .minimum) prev fit greedy reach K m (length (a .sums .now)) (length opts) refl (ro .kept .1 .1 .1 .1 .1 .1 .1 .0 ∙ st .pre .1 .5),
+      rows-room (a .sums .now) (a .gap .0) (a .bounded) (a .limit .0) (a .minimum) prev fit greedy reach K m (length (a .sums .now)) (length opts) refl (ro .kept .1 .1 .1 .1 .1 .1 .1 .0 ∙ st .pre .1 .5),
     )
 
 same-length : tie.Need-same-length
@@ -131,7 +131,7 @@ returns c =
     let d = c .before .before .before .before .before .before .before .before .before .before .before .before in
     let a = d .before .before .before .before .before .before .before .before .before .before .before .before .before .before .before .before .before .before .before .before .before .before .before .before .before .before .before .before .before .before .before .before .before .before .before .before .before .args in
     let ro = c .before .before .before .before .before .before .before .before .before .before .before .rows in
-    finish (a .sums .now) (a .gap) (a .bounded) (a .limit) (a .minimum) (d .before .before .before .before .before .before .before .before .first-row .last .1 .1 .0) (d .before .before .before .before .before .before .before .before .before .before .before .before .before .before .before .before .before .before .before .before .before .before .before .before .before .before .before .fit-ends .last .1 .1 .1 .1 .0) (d .before .before .before .before .before .before .before .before .before .before .before .before .before .before .before .before .before .before .before .before .before .before .suffix-greedy .last .1 .0) (d .before .before .before .before .before .before .before .before .before .before .before .before .forward .last .1 .0) (d .before .before .before .before .before .before .before .before .before .before .before .before .before .before .before .larger2 .result) (made d)
+    finish (a .sums .now) (a .gap .0) (a .bounded) (a .limit .0) (a .minimum) (d .before .before .before .before .before .before .before .before .first-row .last .1 .1 .0) (d .before .before .before .before .before .before .before .before .before .before .before .before .before .before .before .before .before .before .before .before .before .before .before .before .before .before .before .fit-ends .last .1 .1 .1 .1 .0) (d .before .before .before .before .before .before .before .before .before .before .before .before .before .before .before .before .before .before .before .before .before .before .suffix-greedy .last .1 .0) (d .before .before .before .before .before .before .before .before .before .before .before .before .forward .last .1 .0) (d .before .before .before .before .before .before .before .before .before .before .before .before .before .before .before .larger2 .result) (made d)
     (ro .last .1 .1 .1 .1 .1 .0) (ro .last .1 .1 .1 .1 .1 .1 .1 .0) (ro .ensures) (c .before .before .read-back .last .1 .0) (c .before .before .read-back .ensures)
 
 pub balance-spec : {M : Type 1} → statement M

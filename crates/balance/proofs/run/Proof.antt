@@ -18,7 +18,7 @@ balance-requires c κs =
     let q = st .pre .1 in
     let au = c .before .before .before .before .before .before .before .before .before .before .add-up in
     let sl : length (au .last .1 .1 .0) ≡ length (a .sizes .now) = au .kept .1 .1 .0 ∙ q .0 in (
-      (run-in (a .sizes .now) (a .gap) (a .bounded) (a .limit) (au .last .1 .1 .0) (au .ensures) (p .0), omega (arith, p .1, sl), omega (arith, p .2, sl)),
+      (run-in (a .sizes .now) (a .gap .0) (a .bounded) (a .limit .0) (au .last .1 .1 .0) (au .ensures) (p .0), omega (arith, p .1, sl), omega (arith, p .2, sl)),
       (q .1 ∙ sym sl, q .2 ∙ sym sl, q .3 ∙ sym sl, q .4 ∙ sym sl, q .5 ∙ sym sl, rw sl (q .6), q .7 ∙ sym sl),
     )
 
@@ -55,7 +55,7 @@ returns c =
     let au = c .before .before .before .before .before .before .before .before .before .before .before .before .before .before .before .before .before .before .before .before .before .before .before .before .before .before .before .before .before .add-up in
     let ba = c .before .before .before .before .before .before .before .before .before .before .before .before .before .before .before .before .before .before .balance in
     let cl = c .before .before .clear in
-    run-out (a .sizes .now) (a .gap) (a .bounded) (a .limit) (au .last .1 .1 .0) (a .minimum) (ba .result) (ba .last .1 .1 .1 .1 .1 .1 .1 .1 .1 .1 .1 .0) (cl .last .0) (au .ensures) (cl .kept .0) (cl .ensures .0) (cl .ensures .1) (ba .ensures)
+    run-out (a .sizes .now) (a .gap .0) (a .bounded) (a .limit .0) (au .last .1 .1 .0) (a .minimum) (ba .result) (ba .last .1 .1 .1 .1 .1 .1 .1 .1 .1 .1 .1 .0) (cl .last .0) (au .ensures) (cl .kept .0) (cl .ensures .0) (cl .ensures .1) (ba .ensures)
 
 pub run-spec : {M : Type 1} → statement M
 run-spec =
