@@ -9,7 +9,8 @@ use native.Mathlib.Nat.{eq-or-lt-of-le}
 use native.Mathlib.Omega.{arith}
 use lib.ListN.{length, getD, take, drop, length-drop}
 use lib.Dec.{T, leb, ltb, eqb, leb→le, le→leb, ltb→lt, lt→ltb, eqb→eq, eqb-refl, not-T, T-not}
-use Rattle.balance.specs.Balance.{Limit, max-content, definite, definite-below-0, Fits, lineSize, Line, Valid, score, MoreFirst, Better, Chosen, GreedyLine, Greedy, held, Balanced}
+use Rattle.balance.specs.Natural.{Limit, max-content, definite, definite-below-0, Fits, lineSize, Line, Valid, score, Better, Chosen, GreedyLine, Greedy, Balanced}
+use Rattle.balance.specs.Rule.{MoreFirst, held}
 
 and-l : (a b : Bool) → T (a && b) → T a
 and-l true b t = tt

@@ -1,4 +1,5 @@
--- The rule names exactly one division of any list of items. Assumes nothing.
+-- Over natural numbers, every list of at least one item has a division that the rule names: the tables of fit ends and greedy counts exist, and the dynamic program
+-- has a choice wherever it is feasible. Assumes nothing.
 use mathlib.Core.Path.{_≡_, refl, sym, ap, _∙_}
 use mathlib.Core.Logic.{_⊎_, inl, inr}
 use mathlib.Core.List.{List, [], _∷_}
@@ -7,8 +8,8 @@ use native.Mathlib.Nat.{le-refl}
 use native.Mathlib.Omega.{arith}
 use lib.ListN.{length, drop, length-drop}
 use lib.Seq.{drop-drop}
-use Rattle.balance.specs.Balance.{Limit, Fits, Chosen, GreedyLine, Greedy, held, Balanced}
-use Rattle.balance.proofs.Unique.{unique}
+use Rattle.balance.specs.Natural.{Limit, Fits, Chosen, GreedyLine, Greedy, Balanced}
+use Rattle.balance.specs.Rule.{held}
 use Rattle.balance.specs.Dp.{Feas, Laws, Costs}
 use Rattle.balance.proofs.DpLaws.{lt-or-ge, G-le, exists}
 use Rattle.balance.specs.Sizes.{sizeAt, squareAt, FitEnd, GreedyCounts, ZeroAt}
@@ -181,15 +182,10 @@ module _ (limit : Limit) (gap : ℕ) (xs : List ℕ) where
       c : (x : ℕ) × Costs (length xs) fit-table (ZeroAt xs) (squareAt gap xs) K 0 x
       c = exists (length xs) fit-table count-table (ZeroAt xs) (squareAt gap xs) law K 0 f
 
-  -- AND ONLY ONE
-  pub balanced-one : (minimum : ℕ) (d e : List ℕ) → Balanced limit gap xs minimum d → Balanced limit gap xs minimum e → d ≡ e
-  balanced-one minimum d e a b = unique limit gap xs (length d) d e (a .chosen) (rw same-count (b .chosen))
-    where
-      same-count : length d ≡ length e
-      same-count = omega (
-        arith,
-        a .count .is,
-        b .count .is,
-        greedy-count fit-table count-table fit-table-is count-table-is 0 (a .count .greedy) zero-le (a .count .is-greedy),
-        greedy-count fit-table count-table fit-table-is count-table-is 0 (b .count .greedy) zero-le (b .count .is-greedy),
-      )
+  -- two greedy divisions have as many lines
+  pub greedy-same : (d e : List ℕ) → Greedy limit gap xs d → Greedy limit gap xs e → length d ≡ length e
+  greedy-same d e p q = omega (
+    arith,
+    greedy-count fit-table count-table fit-table-is count-table-is 0 d zero-le p,
+    greedy-count fit-table count-table fit-table-is count-table-is 0 e zero-le q,
+  )

@@ -7,7 +7,8 @@ use native.Mathlib.Nat.{le-refl, mul-le-mul}
 use native.Mathlib.Omega.{arith}
 use lib.ListN.{length, getD, take}
 use lib.Ieee.{Float, nan, mul, binary64}
-use Rattle.balance.specs.Balance.{Chosen, Balanced, held}
+use Rattle.balance.specs.Natural.{Chosen, Balanced}
+use Rattle.balance.specs.Rule.{held}
 use Rattle.balance.specs.Dp.{Laws, BestAt}
 use Rattle.balance.proofs.DpLaws.{G-mono}
 use Rattle.balance.specs.Sizes.{FitEnd, ZeroAt, squareAt}

@@ -8,7 +8,7 @@ use native.Mathlib.Omega.{arith}
 use lib.ListN.{length, getD, take, List·getD-append}
 use lib.Seq.{length-take-le, getD-append-add, getD-take}
 use lib.Ieee.{Float, nan, binary64, mul}
-use Rattle.balance.specs.Balance.{Limit}
+use Rattle.balance.specs.Natural.{Limit}
 use Rattle.balance.specs.Dp.{Feas, Laws, Usable}
 use Rattle.balance.proofs.DpLaws.{lt-or-ge, Order, order, less, same, more, G-mono, row-one, extend-costs}
 use Rattle.balance.proofs.EndsLaws.{covers-start}

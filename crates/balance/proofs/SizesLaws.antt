@@ -8,7 +8,7 @@ use native.Mathlib.Decide.{decLe, ℕ-discrete}
 use native.Mathlib.Omega.{arith}
 use lib.ListN.{length, getD, take, drop, length-drop}
 use lib.Seq.{drop-drop, getD-drop}
-use Rattle.balance.specs.Balance.{Limit, max-content, definite, definite-below-0, Fits, lineSize, Line, Valid, score, Better, Chosen}
+use Rattle.balance.specs.Natural.{Limit, max-content, definite, definite-below-0, Fits, lineSize, Line, Valid, score, Better, Chosen}
 use Rattle.balance.specs.Dp.{Ok, ValidAt, scoreAt, BetterAt, BestAt, Laws}
 use Rattle.balance.proofs.DpLaws.{lt-or-ge}
 use Rattle.balance.specs.Sizes.{pre, sizeAt, squareAt, FitEnd, GreedyCounts, ZeroAt}

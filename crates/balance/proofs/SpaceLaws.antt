@@ -7,7 +7,7 @@ use native.Mathlib.Omega.{arith}
 use lib.ListN.{length, getD, take, length-take}
 use lib.Seq.{ext-getD, getD-take}
 use lib.Ieee.{Float}
-use Rattle.balance.specs.Balance.{Balanced}
+use Rattle.balance.specs.Natural.{Balanced}
 use Rattle.balance.specs.Pixels.{AddOut}
 use Rattle.balance.specs.Program.{BalanceIn, BalanceOut}
 use Rattle.balance.specs.Space.{RunIn, RunOut}

@@ -11,7 +11,7 @@ use lib.ListN.{length, getD, set, length-set, List·getD-eq-default}
 use lib.Seq.{getD-set-same, getD-set-other}
 use lib.Ieee.{Float, nan, binary64, add}
 use lib.Ieee.Exact.{HasValue}
-use Rattle.balance.specs.Balance.{Limit, max-content, definite, definite-below-0, Fits}
+use Rattle.balance.specs.Natural.{Limit, max-content, definite, definite-below-0, Fits}
 use Rattle.balance.proofs.DpLaws.{lt-or-ge, Order, order, less, same, more}
 use Rattle.balance.specs.Sizes.{pre, sizeAt, FitEnd, GreedyCounts}
 use Rattle.balance.proofs.SizesLaws.{fits-less, size-mono, fit-under, pre-step, pre-mono}

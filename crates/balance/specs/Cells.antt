@@ -7,7 +7,7 @@ use Prim.Native.Nat.{ℕ, zero, suc, _+_, _^_, _≤_, _<_}
 use lib.IntN.{pos}
 use lib.ListN.{length, getD}
 use lib.Ieee.{Float, nan, fin, binary64, add, sub, mul, le, eq}
-use Rattle.balance.specs.Balance.{Limit}
+use Rattle.balance.specs.Natural.{Limit}
 use Rattle.balance.specs.Dp.{Argmin, Feas, Usable, Costs}
 use Rattle.balance.specs.Ends.{Covers}
 use Rattle.balance.specs.Sizes.{pre, squareAt, FitEnd, GreedyCounts, ZeroAt}

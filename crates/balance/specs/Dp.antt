@@ -6,7 +6,7 @@ use mathlib.Core.Logic.{_⊎_}
 use mathlib.Core.List.{List, [], _∷_}
 use Prim.Native.Nat.{ℕ, _+_, _≤_, _<_}
 use lib.ListN.{length}
-use Rattle.balance.specs.Balance.{MoreFirst}
+use Rattle.balance.specs.Rule.{MoreFirst}
 
 -- t has U, and is the last of the least by c among those that have U
 pub record Argmin (U : ℕ → Type 0) (c : ℕ → ℕ) (t : ℕ) : Type 0 where

@@ -1,5 +1,5 @@
 pub mod Rule
-pub mod Balance
+pub mod Natural
 pub mod Dp
 pub mod Ends
 pub mod Sizes

@@ -10,7 +10,7 @@ use lib.Ieee.Exact.{HasValue}
 use Rattle.balance.specs.Whole.{Holds}
 use Rattle.balance.specs.Sizes.{pre}
 use Rattle.balance.specs.Tables.{SumsAre}
-use Rattle.balance.specs.Balance.{Limit, definite, definite-below-0}
+use Rattle.balance.specs.Natural.{Limit, definite, definite-below-0}
 
 -- v is a number of pixels, a / 64 or -(a / 64), and x is its size in sixty-fourths: 0 where it is negative
 pub record SizeIs (v : Float) (x : ℕ) : Type 0 where

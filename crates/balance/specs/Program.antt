@@ -5,7 +5,7 @@ use mathlib.Core.List.{List}
 use Prim.Native.Nat.{ℕ, suc, _+_, _-_, _*_, _≤_, _<_}
 use lib.ListN.{length, getD, take}
 use lib.Ieee.{Float, nan}
-use Rattle.balance.specs.Balance.{Limit, Balanced}
+use Rattle.balance.specs.Natural.{Limit, Balanced}
 use Rattle.balance.specs.Dp.{Argmin, Feas, Usable, Costs}
 use Rattle.balance.specs.Sizes.{squareAt, FitEnd, GreedyCounts, ZeroAt}
 use Rattle.balance.specs.Whole.{Holds}

@@ -4,7 +4,7 @@ use mathlib.Core.Logic.{_⊎_}
 use mathlib.Core.List.{List, [], _∷_}
 use Prim.Native.Nat.{ℕ, zero, suc, _+_, _-_, _*_, _≤_, _<_}
 use lib.ListN.{length, getD}
-use Rattle.balance.specs.Balance.{Limit, Fits}
+use Rattle.balance.specs.Natural.{Limit, Fits}
 
 -- ---- sums: each item with a gap after it
 abbrev pub pre : ℕ → List ℕ → ℕ → ℕ

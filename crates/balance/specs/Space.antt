@@ -8,7 +8,7 @@ use lib.Ieee.{Float}
 use lib.Ieee.Exact.{HasValue}
 use Rattle.balance.specs.declared.Space.{Space}
 use Rattle.balance.specs.declared.Space.the-variants.{Definite, MinContent, MaxContent}
-use Rattle.balance.specs.Balance.{Limit, max-content, Balanced}
+use Rattle.balance.specs.Natural.{Limit, max-content, Balanced}
 use Rattle.balance.specs.Tables.{LimitIs}
 use Rattle.balance.specs.Pixels.{SizesAre, limitOf}
 

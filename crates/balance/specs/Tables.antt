@@ -6,7 +6,7 @@ use mathlib.Core.Bool.{Bool, true, false, cond}
 use Prim.Native.Nat.{ℕ, suc, _+_, _^_, _≤_, _<_}
 use lib.ListN.{length, getD}
 use lib.Ieee.{Float, nan, le}
-use Rattle.balance.specs.Balance.{Limit, Fits}
+use Rattle.balance.specs.Natural.{Limit, Fits}
 use Rattle.balance.specs.Sizes.{pre, FitEnd}
 use Rattle.balance.specs.Whole.{Holds}
 use Rattle.balance.specs.Cells.{sizeF, ends}
