@@ -7,7 +7,7 @@ ghost use lib.ListN.{length, getD};
 ghost use lib.IntN.{natAbs};
 ghost use lib.Ieee.{nan};
 ghost use Rattle.grid.specs.Grid.{Length, sixtyFourths};
-ghost use Rattle.refusal.specs.Domain.{gridded, inRange, float, code, shape, summed, asAnswer};
+ghost use Rattle.refusal.specs.Domain.{gridded, offGrid, inRange, float, code, shape, summed, asAnswer};
 ghost use Rattle.refusal.specs.Marks.{mark, leastUpTo, judged, placeOf, sumUpTo, Lengths};
 
 // What a number is, and so which grid and range it is held to.
@@ -65,6 +65,16 @@ fn has_grid(kind: Kind) -> bool
     }
 }
 
+fn off_grid(kind: Kind, x: f32) -> bool
+    ensures { λ r. ⌜ r ≡ offGrid (float kind x) ⌝ }
+{
+    if has_grid(kind) {
+        !grid::on_grid(x)
+    } else {
+        false
+    }
+}
+
 fn in_range(kind: Kind, x: f32) -> bool
     ensures { λ r. ⌜ r ≡ inRange kind x ⌝ }
 {
@@ -73,7 +83,11 @@ fn in_range(kind: Kind, x: f32) -> bool
         Kind::Margin => if x <= 131072.0 { x >= -131072.0 } else { false },
         Kind::Size => if x <= 262144.0 { x >= 0.0 } else { false },
         Kind::Factor => if x <= 1024.0 { x >= 0.0 } else { false },
-        Kind::Worked => if x <= 16777216.0 { x >= -16777216.0 } else { false },
+        Kind::Worked => if x <= 16777216.0 {
+            x >= -16777216.0
+        } else {
+            false
+        },
     }
 }
 
@@ -92,12 +106,14 @@ pub fn mark_float(kind: Kind, x: f32, place: u32) -> Mark
     if !grid::is_finite(x) {
         return Mark(place);
     }
-    if has_grid(kind) {
-        if !grid::on_grid(x) {
-            return Mark(2048 + place);
-        }
+    if off_grid(kind, x) {
+        return Mark(2048 + place);
     }
-    if in_range(kind, x) { Mark(6144) } else { Mark(4096 + place) }
+    if in_range(kind, x) {
+        Mark(6144)
+    } else {
+        Mark(4096 + place)
+    }
 }
 
 // The mark of a code, which is one of 0 to `most`.
@@ -105,7 +121,11 @@ pub fn mark_code(most: u32, c: u32, place: u32) -> Mark
     requires { ⌜ place ≤ 1024 ⌝ }
     ensures { λ r. ⌜ r .0 ≡ mark (code most c) place ⌝ }
 {
-    if most < c { Mark(4096 + place) } else { Mark(6144) }
+    if most < c {
+        Mark(4096 + place)
+    } else {
+        Mark(6144)
+    }
 }
 
 // The one that comes first.
@@ -149,7 +169,11 @@ pub fn judge(m: Mark) -> Verdict
 fn place_of(n: u32) -> Place
     ensures { λ r. ⌜ r ≡ placeOf n ⌝ }
 {
-    if n == 0 { Place::Container } else { Place::At(n - 1) }
+    if n == 0 {
+        Place::Container
+    } else {
+        Place::At(n - 1)
+    }
 }
 
 // Checks 1 and 2: `longest` is the length of the longest input list, and `room` says that the lists are of one length and that there is room.
@@ -159,7 +183,11 @@ pub fn check_shape(longest: usize, room: bool) -> Verdict
     if 1024 < longest {
         return Verdict::Refused(Refusal::TooManyItems);
     }
-    if room { Verdict::Passed } else { Verdict::Refused(Refusal::TooLittleRoom) }
+    if room {
+        Verdict::Passed
+    } else {
+        Verdict::Refused(Refusal::TooLittleRoom)
+    }
 }
 
 // One item more in the sum of check 6: the magnitude of its outer main size, and a gap.
