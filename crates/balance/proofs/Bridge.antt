@@ -14,16 +14,11 @@ use lib.IntN.{ℤ, pos, negsuc, natAbs, _+ℤ_}
 use Rattle.breaking.specs.Breaking.{Limit, min-content, max-content, definite, fits, lineSize, taken, linesOf, greedy}
 use Rattle.balance.specs.Rule.{floored, Line, Valid, score, Better, Chosen, required, Balanced}
 use Rattle.balance.specs.Natural as nat
+use Rattle.balance.specs.Run.{natural}
 use Rattle.balance.proofs.DpLaws.{lt-or-ge}
 use Rattle.balance.proofs.Exists.{greedy-same, balanced-exists}
 
--- ---- limits and sizes
-abbrev pub natural : Limit → nat.Limit
-natural min-content = nat.definite-below-0
-natural max-content = nat.max-content
-natural (definite (pos m)) = nat.definite m
-natural (definite (negsuc m)) = nat.definite-below-0
-
+-- ---- sizes
 -- a size with a negative one read as 0
 abbrev pub size : ℤ → ℕ
 size (pos n) = n
@@ -211,8 +206,7 @@ module _ (limit : Limit) (g : ℕ) where
   lines-greedy zero (x ∷ ns) h = absurd (omega arith)
   lines-greedy (suc most) [] h = refl
   lines-greedy (suc most) (x ∷ ns) h =
-      let t : ℕ = taken limit (pos g) (pos x ∷ []) (map pos ns) in
-      (
+      let t : ℕ = taken limit (pos g) (pos x ∷ []) (map pos ns) in (
         greedy-line x ns t (taken-is (x ∷ []) ns),
         subst (λ (l : List ℤ). nat.Greedy (natural limit) g (drop t ns) (linesOf most limit (pos g) l)) (sym (drop-map t ns)) (lines-greedy most (drop t ns) (omega (arith, length-drop t ns))),
       )

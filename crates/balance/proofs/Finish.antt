@@ -109,7 +109,7 @@ module _ (sums : List Float) (gap : Float) (bounded : Bool) (limit : Float) (min
     }
 
     pub finish : (counts : List ℕ) → ReadOut opts (length sums) K counts → BalanceOut sums gap bounded limit minimum K counts
-    finish counts O = record { balanced = done }
+    finish counts O = record { few = K-hi; balanced = done }
       where
         done : (I : BalanceIn sums gap bounded limit) → Balanced (I .L) (I .g) (I .xs) minimum (take K counts)
         done I =

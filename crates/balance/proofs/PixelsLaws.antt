@@ -14,11 +14,14 @@ use lib.Ieee.Exact.{HasValue}
 use lib.Ieee.Back.{round-whole}
 use lib.Ieee.Scale.{round-same}
 use lib.Ieee.Fits.{down-pos}
+use Rattle.grid.specs.Grid.{signed}
+use Rattle.breaking.specs.Breaking as limit
 use Rattle.balance.specs.Whole.{Holds}
+use Rattle.balance.specs.Run.{natural}
 use Rattle.balance.proofs.SizesLaws.{pre-step, pre-mono}
 use Rattle.balance.specs.Tables.{LimitIs}
 use Rattle.balance.proofs.TablesLaws.{SumsSoFar, sums-more, limit-definite, limit-minus-zero, limit-below}
-use Rattle.balance.specs.Pixels.{SizeIs, SizeOut, SizesAre, AddOut, limitOf}
+use Rattle.balance.specs.Pixels.{scaledF, SizeIs, SizeOut, SizesAre, AddOut}
 
 abbrev pub sixty-four : Float
 sixty-four = fin false 1 (pos 6)
@@ -68,7 +71,7 @@ above v x t S = go (S .is)
         at (fin false m e) t g = false≢true (g .0)
         at (fin true m e) t g = false≢true t
 
-pub size-above : (v : Float) → lt (ofBits binary32 0) v ≡ true → SizeOut v (mul binary64 v (ofBits binary64 4634204016564240384))
+pub size-above : (v : Float) → lt (ofBits binary32 0) v ≡ true → SizeOut v (scaledF v)
 unfolding ofBits
 size-above v t = record { holds = λ x h S. scaled v x h (above v x t S) }
 
@@ -112,7 +115,9 @@ scaled-minus (fin true m e) x h p =
     (round-same binary64 true (m * up e * 64) (down e * 1) x 1 (rw mul-one (down-pos e)) (omega arith) (rw (mul-one (m * up e * 64), mul-one (down e)) (p .1)))
     (round-whole binary64 true x h)
 
-pub limit-pixels : (v : Float) (s : Bool) (m : ℕ) → m ≤ 2 ^ 53 → HasValue v s m 64 → LimitIs (limitOf s m) true (mul binary64 v sixty-four)
+-- a definite limit, in pixels: of either sign
+pub limit-pixels : (v : Float) (s : Bool) (m : ℕ) → m ≤ 2 ^ 53 → HasValue v s m 64 → LimitIs (natural (limit.definite (signed s m))) true (scaledF v)
+unfolding ofBits
 limit-pixels v false m h g = limit-definite m (mul binary64 v sixty-four) (scaled v m h g)
 limit-pixels v true zero h g = limit-minus-zero (mul binary64 v sixty-four) (scaled-minus v 0 h g)
 limit-pixels v true (suc m) h g = limit-below m (mul binary64 v sixty-four) (scaled-minus v (suc m) h g)

@@ -243,31 +243,6 @@ sums-more g xs sums gapF size acc i h hl small gi si S = record { acc-is = rw ad
     at j p (same l) = rw (l, getD-set-same sums i (add binary64 acc (add binary64 size gapF)) nan hl) new
     at j p (more l) = absurd (omega arith)
 
--- ---- clearing from `from` on, up to i
-pub record ClearSoFar (a₀ : List ℕ) (from : ℕ) (a : List ℕ) (i : ℕ) : Type 0 where
-  pub same-length : length a ≡ length a₀
-  pub kept : (j : ℕ) → j < from → getD a j 0 ≡ getD a₀ j 0
-  pub cleared : (j : ℕ) → from ≤ j → j < i → getD a j 0 ≡ 0
-
-pub clear-more : (a₀ : List ℕ) (from : ℕ) (a : List ℕ) (i : ℕ) → from ≤ i → i < length a → ClearSoFar a₀ from a i → ClearSoFar a₀ from (set a i 0) (i + 1)
-clear-more a₀ from a i f h C = record {
-  same-length = length-set a i 0 ∙ C .same-length;
-  kept = λ j p. getD-set-other a i j 0 0 (omega arith) ∙ C .kept j p;
-  cleared = λ j p q. go j p (order j i) q;
-}
-  where
-    go : (j : ℕ) → from ≤ j → Order j i → j < i + 1 → getD (set a i 0) j 0 ≡ 0
-    go j p (less l) q = getD-set-other a i j 0 0 (let u : j ≢ i = omega arith in u) ∙ C .cleared j p l
-    go j p (same l) q = rw l (getD-set-same a i 0 0 h)
-    go j p (more l) q = absurd (omega arith)
-
-pub clear-end : (a₀ : List ℕ) (from : ℕ) (a : List ℕ) (i : ℕ) → length a ≤ i → ClearSoFar a₀ from a i → (j : ℕ) → from ≤ j → getD a j 0 ≡ 0
-clear-end a₀ from a i h C j p = go (lt-or-ge j (length a))
-  where
-    go : (j < length a) ⊎ (length a ≤ j) → getD a j 0 ≡ 0
-    go (inl l) = C .cleared j p (omega arith)
-    go (inr l) = List·getD-eq-default a 0 l
-
 pub limit-minus-zero : (x : Float) → HasValue x true 0 1 → LimitIs (definite 0) true x
 limit-minus-zero x g = record {
   yes-fits = λ y a h t. omega (arith, le-minus-zero y x a h g t);

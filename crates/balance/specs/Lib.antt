@@ -9,4 +9,4 @@ pub mod Tables
 pub mod Program
 pub mod Reading
 pub mod Pixels
-pub mod Space
+pub mod Run

@@ -2,15 +2,18 @@
 use mathlib.Core.Path.{_≡_}
 use mathlib.Core.Logic.{_⊎_}
 use mathlib.Core.List.{List}
-use mathlib.Core.Bool.{Bool, true, false}
-use Prim.Native.Nat.{ℕ, zero, suc, _^_, _≤_, _<_}
+use mathlib.Core.Bool.{true, false}
+use Prim.Native.Nat.{ℕ, _^_, _≤_, _<_}
 use lib.ListN.{length, getD}
-use lib.Ieee.{Float, nan}
+use lib.Ieee.{Float, nan, binary64, mul, ofBits}
 use lib.Ieee.Exact.{HasValue}
 use Rattle.balance.specs.Whole.{Holds}
 use Rattle.balance.specs.Sizes.{pre}
 use Rattle.balance.specs.Tables.{SumsAre}
-use Rattle.balance.specs.Natural.{Limit, definite, definite-below-0}
+
+-- v times 64, as the machine has it
+abbrev pub scaledF : Float → Float
+scaledF v = mul binary64 v (ofBits binary64 4634204016564240384)
 
 -- v is a number of pixels, a / 64 or -(a / 64), and x is its size in sixty-fourths: 0 where it is negative
 pub record SizeIs (v : Float) (x : ℕ) : Type 0 where
@@ -28,9 +31,3 @@ pub record SizesAre (g : ℕ) (xs : List ℕ) (sizes : List Float) (gap : Float)
 
 pub record AddOut (sizes : List Float) (gap : Float) (sums : List Float) : Type 0 where
   pub sums-are : (g : ℕ) (xs : List ℕ) → SizesAre g xs sizes gap → SumsAre g xs sums gap
-
--- ---- a definite limit in pixels: v is z / 64 of one sign or the other, and the rule's limit is what `limitOf` says
-abbrev pub limitOf : Bool → ℕ → Limit
-limitOf false m = definite m
-limitOf true zero = definite 0
-limitOf true (suc m) = definite-below-0

@@ -84,4 +84,5 @@ pub record BalanceIn (sums : List Float) (gap : Float) (bounded : Bool) (limit :
   pub limit-is : LimitIs L bounded limit
 
 pub record BalanceOut (sums : List Float) (gap : Float) (bounded : Bool) (limit : Float) (minimum r : ℕ) (counts : List ℕ) : Type 0 where
+  pub few : r ≤ length sums
   pub balanced : (I : BalanceIn sums gap bounded limit) → Balanced (I .L) (I .g) (I .xs) minimum (take r counts)

@@ -1,7 +1,10 @@
 // Cells and small numbers: what every stage of balanced breaking reads and writes with.
-ghost use Prim.Native.Nat.{ℕ, min, max, _-_, _≤_, _<_};
-ghost use lib.ListN.{length, getD};
 ghost use mathlib.Core.Path.{_≡_};
+ghost use mathlib.Core.List.{_++_};
+ghost use Prim.Native.Nat.{_-_, _<_, min, max};
+ghost use lib.ListN.{length, getD, take, replicate};
+ghost use lib.Ieee.{binary64, ofBits};
+ghost use Rattle.balance.specs.Run.{Cleared, ClearedF};
 
 // The number in cell `i`.
 pub fn at(a: &[u32], i: usize) -> usize
@@ -38,11 +41,43 @@ pub fn less_one(x: usize) -> usize
 
 // Sets the cells from `from` on to 0.
 pub fn clear(a: &mut [u32], from: usize)
-    ensures { λ _. ⌜ ((i : ℕ) → i < from → getD (now (a .exit)) i 0 ≡ getD (now (a .entry)) i 0) × ((i : ℕ) → from ≤ i → getD (now (a .exit)) i 0 ≡ 0) ⌝ }
+    ensures { λ _. ⌜ now (a .exit) ≡ take from (now (a .entry)) ++ replicate (length (now (a .entry)) - from) 0 ⌝ }
 {
     let mut i = from;
     while i < a.len() {
         a[i] = 0;
         i += 1;
     }
+}
+
+// Sets all cells to 0.
+pub fn clear_floats(a: &mut [f64])
+    ensures { λ _. ⌜ now (a .exit) ≡ replicate (length (now (a .entry))) (ofBits binary64 0) ⌝ }
+{
+    let mut i = 0;
+    while i < a.len() {
+        a[i] = 0.0;
+        i += 1;
+    }
+}
+
+// Sets all cells of the work lists to 0. They may hold anything before a call, so each is owed.
+pub fn clear_work(
+    opts: &mut [u32],
+    fit: &mut [u32],
+    greedy: &mut [u32],
+    reach: &mut [u32],
+    sums: &mut [f64],
+    prev: &mut [f64],
+    cur: &mut [f64],
+)
+    ensures { λ _. ⌜ Cleared (now (opts .entry)) (now (opts .exit)) × Cleared (now (fit .entry)) (now (fit .exit)) × Cleared (now (greedy .entry)) (now (greedy .exit)) × Cleared (now (reach .entry)) (now (reach .exit)) × ClearedF (now (sums .entry)) (now (sums .exit)) × ClearedF (now (prev .entry)) (now (prev .exit)) × ClearedF (now (cur .entry)) (now (cur .exit)) ⌝ }
+{
+    clear(opts, 0);
+    clear(fit, 0);
+    clear(greedy, 0);
+    clear(reach, 0);
+    clear_floats(sums);
+    clear_floats(prev);
+    clear_floats(cur);
 }

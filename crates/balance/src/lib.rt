@@ -3,19 +3,28 @@ ghost use mathlib.Core.Bool.{not};
 ghost use Prim.Native.Nat.{ℕ, _+_, _*_, _≤_, _<_};
 ghost use lib.Dec.{T};
 ghost use lib.ListN.{length, getD};
-ghost use lib.Ieee.{isNan, nan};
+ghost use lib.Ieee.{Float, isNan, nan};
 ghost use Rattle.balance.specs.Program.{BalanceIn, BalanceOut};
 ghost use Rattle.balance.specs.Reading.{Readable, ReadOut};
-ghost use Rattle.balance.specs.Space.{RunIn, RunOut, boundedOf};
+ghost use Rattle.grid.specs.Grid.{Length};
+ghost use Rattle.breaking.specs.Breaking.{limitOf};
+ghost use Rattle.breaking.specs.Calls.{Breakable};
+ghost use Rattle.balance.specs.Tables.{LimitIs};
+ghost use Rattle.balance.specs.Run.{natural, RunIn, RunOut, Divided, Cleared, ClearedF};
 ghost use mathlib.Core.Path.{_≡_};
+use breaking::AvailableSpace;
 use cells::at;
 use cells::clear;
+use cells::clear_work;
 use cells::larger;
 use cells::smaller;
 use program::first_row;
 use program::rows;
 use sums::Units;
 use sums::add_up;
+use sums::to_size;
+use sums::to_units;
+use tables::Cap;
 use tables::fit_ends;
 use tables::forward;
 use tables::suffix_greedy;
@@ -45,11 +54,10 @@ fn read_back(opts: &[u32], counts: &mut [u32], n: usize, line_count: usize)
 }
 
 // The balanced division of the items whose sums are given: counts by line. Returns the number of lines.
-fn balance(
+fn line_item_counts(
     sums: &[f64],
     gap: Units,
-    bounded: bool,
-    limit: Units,
+    limit: Cap,
     minimum: usize,
     prev: &mut [f64],
     cur: &mut [f64],
@@ -59,11 +67,11 @@ fn balance(
     opts: &mut [u32],
     counts: &mut [u32],
 ) -> usize
-    requires { ⌜ BalanceIn (now sums) (gap .0) bounded (limit .0) × (1 ≤ length (now sums)) × (length (now sums) ≤ 1024) ⌝ ∗ ⌜ (length (now prev) ≡ length (now sums)) × (length (now cur) ≡ length (now sums)) × (length (now fit) ≡ length (now sums)) × (length (now greedy) ≡ length (now sums)) × (length (now reach) ≡ length (now sums)) × (length (now opts) ≡ length (now sums) * length (now sums)) × (length (now counts) ≡ length (now sums)) ⌝ }
-    ensures { λ r. ⌜ BalanceOut (now (sums .entry)) (gap .0) bounded (limit .0) minimum r (now (counts .exit)) ⌝ }
+    requires { ⌜ BalanceIn (now sums) (gap .0) (limit .bounded) (limit .most .0) × (1 ≤ length (now sums)) × (length (now sums) ≤ 1024) ⌝ ∗ ⌜ (length (now prev) ≡ length (now sums)) × (length (now cur) ≡ length (now sums)) × (length (now fit) ≡ length (now sums)) × (length (now greedy) ≡ length (now sums)) × (length (now reach) ≡ length (now sums)) × (length (now opts) ≡ length (now sums) * length (now sums)) × (length (now counts) ≡ length (now sums)) ⌝ }
+    ensures { λ r. ⌜ BalanceOut (now (sums .entry)) (gap .0) (limit .bounded) (limit .most .0) minimum r (now (counts .exit)) ⌝ }
 {
     let n = sums.len();
-    fit_ends(sums, gap, bounded, limit, fit);
+    fit_ends(sums, gap, limit, fit);
     suffix_greedy(fit, greedy);
     let fewest = at(greedy, 0);
     let asked = larger(minimum, 1);
@@ -77,11 +85,10 @@ fn balance(
 }
 
 // The balanced division of accepted sizes. The counts past the last line are 0.
-fn run(
+fn counts_of_sizes(
     sizes: &[f32],
     gap: Units,
-    bounded: bool,
-    limit: Units,
+    limit: Cap,
     minimum: usize,
     sums: &mut [f64],
     prev: &mut [f64],
@@ -92,14 +99,13 @@ fn run(
     opts: &mut [u32],
     counts: &mut [u32],
 ) -> usize
-    requires { ⌜ RunIn (now sizes) (gap .0) bounded (limit .0) × (1 ≤ length (now sizes)) × (length (now sizes) ≤ 1024) × ((i : ℕ) → i < length (now sizes) → T (not (isNan (getD (now sizes) i nan)))) ⌝ ∗ ⌜ (length (now sums) ≡ length (now sizes)) × (length (now prev) ≡ length (now sizes)) × (length (now cur) ≡ length (now sizes)) × (length (now fit) ≡ length (now sizes)) × (length (now greedy) ≡ length (now sizes)) × (length (now reach) ≡ length (now sizes)) × (length (now opts) ≡ length (now sizes) * length (now sizes)) × (length (now counts) ≡ length (now sizes)) ⌝ }
-    ensures { λ r. ⌜ RunOut (now (sizes .entry)) (gap .0) bounded (limit .0) minimum r (now (counts .exit)) ⌝ }
+    requires { ⌜ RunIn (now sizes) (gap .0) (limit .bounded) (limit .most .0) × (1 ≤ length (now sizes)) × (length (now sizes) ≤ 1024) × ((i : ℕ) → i < length (now sizes) → T (not (isNan (getD (now sizes) i nan)))) ⌝ ∗ ⌜ (length (now sums) ≡ length (now sizes)) × (length (now prev) ≡ length (now sizes)) × (length (now cur) ≡ length (now sizes)) × (length (now fit) ≡ length (now sizes)) × (length (now greedy) ≡ length (now sizes)) × (length (now reach) ≡ length (now sizes)) × (length (now opts) ≡ length (now sizes) * length (now sizes)) × (length (now counts) ≡ length (now sizes)) ⌝ }
+    ensures { λ r. ⌜ RunOut (now (sizes .entry)) (gap .0) (limit .bounded) (limit .most .0) minimum r (now (counts .exit)) ⌝ }
 {
     add_up(sizes, gap, sums);
-    let k = balance(
+    let k = line_item_counts(
         sums,
         gap,
-        bounded,
         limit,
         minimum,
         prev,
@@ -114,20 +120,62 @@ fn run(
     k
 }
 
-// The space that a line may take.
-pub enum Space {
-    Definite(f32),
-    MinContent,
-    MaxContent,
+// The limit in sixty-fourths. Under min-content no line of several items fits, and no size is below 0.
+fn cap(limit: AvailableSpace) -> Cap
+    requires { ⌜ ((x : Float) → limit ≡ AvailableSpace.Definite x → Length x) ⌝ }
+    ensures { λ r. ⌜ LimitIs (natural (limitOf limit)) (r .bounded) (r .most .0) ⌝ }
+{
+    match limit {
+        AvailableSpace::Definite(x) => Cap {
+            bounded: true,
+            most: to_units(x),
+        },
+        AvailableSpace::MinContent => Cap {
+            bounded: true,
+            most: Units(-1.0),
+        },
+        AvailableSpace::MaxContent => Cap {
+            bounded: false,
+            most: Units(0.0),
+        },
+    }
 }
 
-// Whether a space is a number, and the number in sixty-fourths.
-fn bounded(space: Space) -> bool
-    ensures { λ r. ⌜ r ≡ boundedOf space ⌝ }
+// The balanced division of accepted sizes, in lists of exactly the cells that it takes. The work lists are left zero.
+fn divide(
+    limit: AvailableSpace,
+    gap: f32,
+    minimum: u32,
+    sizes: &[f32],
+    counts: &mut [u32],
+    opts: &mut [u32],
+    fit: &mut [u32],
+    greedy: &mut [u32],
+    reach: &mut [u32],
+    sums: &mut [f64],
+    prev: &mut [f64],
+    cur: &mut [f64],
+) -> usize
+    requires { ⌜ Breakable limit gap (now sizes) ⌝ ∗ ⌜ (length (now counts) ≡ length (now sizes)) × (length (now opts) ≡ length (now sizes) * length (now sizes)) × (length (now fit) ≡ length (now sizes)) × (length (now greedy) ≡ length (now sizes)) × (length (now reach) ≡ length (now sizes)) × (length (now sums) ≡ length (now sizes)) × (length (now prev) ≡ length (now sizes)) × (length (now cur) ≡ length (now sizes)) ⌝ }
+    ensures { λ r. ⌜ Divided limit gap minimum (now (sizes .entry)) r (now (counts .exit)) ⌝ ∗ ⌜ Cleared (now (opts .entry)) (now (opts .exit)) × Cleared (now (fit .entry)) (now (fit .exit)) × Cleared (now (greedy .entry)) (now (greedy .exit)) × Cleared (now (reach .entry)) (now (reach .exit)) × ClearedF (now (sums .entry)) (now (sums .exit)) × ClearedF (now (prev .entry)) (now (prev .exit)) × ClearedF (now (cur .entry)) (now (cur .exit)) ⌝ }
 {
-    match space {
-        Space::Definite(_) => true,
-        Space::MinContent => false,
-        Space::MaxContent => false,
+    if sizes.len() == 0 {
+        return 0;
     }
+    let lines = counts_of_sizes(
+        sizes,
+        to_size(gap),
+        cap(limit),
+        minimum as usize,
+        sums,
+        prev,
+        cur,
+        fit,
+        greedy,
+        reach,
+        opts,
+        counts,
+    );
+    clear_work(opts, fit, greedy, reach, sums, prev, cur);
+    lines
 }

@@ -5,22 +5,26 @@ ghost use lib.Dec.{T};
 ghost use lib.ListN.{length, getD};
 ghost use lib.Ieee.{isNan, nan};
 ghost use Rattle.balance.specs.Cells.{beforeF, sizeF, baseF};
-ghost use Rattle.balance.specs.Pixels.{SizeOut, AddOut};
+ghost use Rattle.balance.specs.Pixels.{scaledF, SizeOut, AddOut};
 ghost use mathlib.Core.Path.{_≡_};
 
 // Whole sixty-fourths of a pixel. A number of pixels cannot stand where one of these is meant.
 pub struct Units(pub f64);
 
-// A size in pixels as a whole number of sixty-fourths, a negative one as 0.
+// A length in pixels as sixty-fourths: exact, since an `f64` has room for every one.
+pub fn to_units(v: f32) -> Units
+    requires { ⌜ T (not (isNan v)) ⌝ }
+    ensures { λ r. ⌜ r .0 ≡ scaledF v ⌝ }
+{
+    Units((v as f64) * 64.0)
+}
+
+// A size in pixels as sixty-fourths, a negative one as 0.
 pub fn to_size(v: f32) -> Units
     requires { ⌜ T (not (isNan v)) ⌝ }
     ensures { λ r. ⌜ SizeOut v (r .0) ⌝ }
 {
-    if 0.0 < v {
-        Units((v as f64) * 64.0)
-    } else {
-        Units(0.0)
-    }
+    if 0.0 < v { to_units(v) } else { Units(0.0) }
 }
 
 // The sum of the items up to each, each with a gap after it.

@@ -10,29 +10,32 @@ use super::cells::or_zero;
 use super::sums::Units;
 use super::sums::line_size;
 
-// Whether a line of this size fits. Where `bounded` is false every line does.
-pub fn fits(bounded: bool, limit: Units, size: Units) -> bool
-    ensures { λ r. ⌜ r ≡ fitsF bounded (limit .0) (size .0) ⌝ }
+// A limit as the tables take it: the most that a line of several items may measure, and whether there is any such bound.
+pub struct Cap {
+    pub bounded: bool,
+    pub most: Units,
+}
+
+// Whether a line of several items, of this size, fits.
+pub fn fits(limit: Cap, size: Units) -> bool
+    ensures { λ r. ⌜ r ≡ fitsF (limit .bounded) (limit .most .0) (size .0) ⌝ }
 {
-    if bounded { size.0 <= limit.0 } else { true }
+    if limit.bounded {
+        size.0 <= limit.most.0
+    } else {
+        true
+    }
 }
 
 // How far a line from `start` that reaches `from` stretches.
-pub fn stretch(
-    sums: &[f64],
-    gap: Units,
-    bounded: bool,
-    limit: Units,
-    start: usize,
-    from: usize,
-) -> usize
+pub fn stretch(sums: &[f64], gap: Units, limit: Cap, start: usize, from: usize) -> usize
     requires { ⌜ (start ≤ from) × (from < length (now sums)) ⌝ }
-    ensures { λ r. ⌜ StretchOut (now (sums .entry)) (gap .0) bounded (limit .0) start from r ⌝ }
+    ensures { λ r. ⌜ StretchOut (now (sums .entry)) (gap .0) (limit .bounded) (limit .most .0) start from r ⌝ }
 {
     let mut end = from;
     while end + 1 < sums.len() {
         let size = line_size(sums, gap, start, end + 1);
-        if fits(bounded, limit, size) {
+        if fits(limit, size) {
             end += 1;
         } else {
             return end;
@@ -42,15 +45,15 @@ pub fn stretch(
 }
 
 // The last item of the longest line from each start.
-pub fn fit_ends(sums: &[f64], gap: Units, bounded: bool, limit: Units, fit: &mut [u32])
+pub fn fit_ends(sums: &[f64], gap: Units, limit: Cap, fit: &mut [u32])
     requires { ⌜ (length (now fit) ≡ length (now sums)) × (length (now sums) ≤ 1024) ⌝ }
-    ensures { λ _. ⌜ FitsOut (now (sums .entry)) (gap .0) bounded (limit .0) (now (fit .exit)) ⌝ }
+    ensures { λ _. ⌜ FitsOut (now (sums .entry)) (gap .0) (limit .bounded) (limit .most .0) (now (fit .exit)) ⌝ }
 {
     let mut start = 0;
     let mut end = 0;
     while start < sums.len() {
         let from = larger(end, start);
-        end = stretch(sums, gap, bounded, limit, start, from);
+        end = stretch(sums, gap, limit, start, from);
         fit[start] = end as u32;
         start += 1;
     }

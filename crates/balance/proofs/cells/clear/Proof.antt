@@ -4,12 +4,12 @@ use Prim.Native.Nat.{_-_, _≤_}
 use native.Mathlib.Nat.{le-refl}
 use native.Mathlib.Omega.{arith}
 use lib.ListN.{length, length-set}
-use Rattle.balance.proofs.TablesLaws.{ClearSoFar, clear-more, clear-end}
+use Rattle.balance.proofs.Clearing.{ClearSoFar, clear-more, clear-end}
 use Rattle.balance.proofs.cells.clear.Statement.{statement}
 use Rattle.balance.proofs.cells.clear.Tie as tie
 
 abbrev Inv-loop : tie.InvT-loop
-Inv-loop a₀ from i₀ a i = (from ≤ i) × ClearSoFar a₀ from a i
+Inv-loop a₀ from i₀ a i = (from ≤ i) × ClearSoFar 0 a₀ from a i
 
 abbrev μ-loop : tie.MeasureT-loop
 μ-loop a₀ from i₀ a i = length a - i
@@ -32,7 +32,7 @@ loop-less c = simp length-set (omega (arith, c .loop-test .taken))
 loop-again : tie.Need-loop-again Inv-loop μ-loop
 loop-again c =
     let l = c .before .loop in
-    (omega (arith, l .inv .0), clear-more (c .before .before .args .a .now) (c .before .before .args .from) (l .a) (l .i) (l .inv .0) (c .loop-test .taken) (l .inv .1))
+    (omega (arith, l .inv .0), clear-more 0 (c .before .before .args .a .now) (c .before .before .args .from) (l .a) (l .i) (l .inv .0) (c .loop-test .taken) (l .inv .1))
 
 same-length : tie.Need-same-length Inv-loop μ-loop
 same-length c = c .before .loop .inv .1 .same-length
@@ -40,7 +40,7 @@ same-length c = c .before .loop .inv .1 .same-length
 returns : tie.Need-returns Inv-loop μ-loop
 returns c =
     let l = c .before .loop in
-    (l .inv .1 .kept, clear-end (c .before .before .args .a .now) (c .before .before .args .from) (l .a) (l .i) (c .loop-test .left) (l .inv .1))
+    clear-end 0 (c .before .before .args .a .now) (c .before .before .args .from) (l .a) (l .i) (c .loop-test .left) (l .inv .1)
 
 pub clear-spec : {M : Type 1} → statement M
 clear-spec =

@@ -4,14 +4,14 @@ use Rattle.balance.proofs.PixelsLaws.{size-above, size-below}
 use Rattle.balance.proofs.sums.to_size.Statement.{statement}
 use Rattle.balance.proofs.sums.to_size.Tie as tie
 
-float-to-float-t4 : tie.Need-float-to-float-t4
-float-to-float-t4 c = search needs
+to-units-requires : tie.Need-to-units-requires
+to-units-requires c κs = search needs
 
 returns : tie.Need-returns
-returns c = size-above (c .before .before .args .v) (c .before .if1 .taken)
+returns c = rw (c .to-units .ensures) (size-above (c .before .before .args .v) (c .before .if1 .taken))
 
 returns-2 : tie.Need-returns-2
 returns-2 c = size-below (c .before .args .v) (c .if1 .left)
 
 pub to-size-spec : {M : Type 1} → statement M
-to-size-spec = tie.close (tie.spec float-to-float-t4 returns returns-2)
+to-size-spec = tie.close (tie.spec to-units-requires returns returns-2)

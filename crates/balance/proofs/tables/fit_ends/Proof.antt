@@ -8,15 +8,15 @@ use Rattle.balance.proofs.tables.fit_ends.Statement.{statement}
 use Rattle.balance.proofs.tables.fit_ends.Tie as tie
 
 abbrev Inv-loop : tie.InvT-loop
-Inv-loop sums gap bounded limit fit₀ start₀ end₀ fit start end = (length fit ≡ length fit₀) × (start ≤ length sums) × FitSoFar sums (gap .0) bounded (limit .0) fit start end
+Inv-loop sums gap limit fit₀ start₀ end₀ fit start end = (length fit ≡ length fit₀) × (start ≤ length sums) × FitSoFar sums (gap .0) (limit .bounded) (limit .most .0) fit start end
 
 abbrev μ-loop : tie.MeasureT-loop
-μ-loop sums gap bounded limit fit₀ start₀ end₀ fit start end = length sums - start
+μ-loop sums gap limit fit₀ start₀ end₀ fit start end = length sums - start
 
 loop-holds : tie.Need-loop-holds Inv-loop μ-loop
 loop-holds c =
     let a = c .before .before .args in
-    (refl, omega arith, fit-start (a .sums .now) (a .gap .0) (a .bounded) (a .limit .0) (a .fit .now))
+    (refl, omega arith, fit-start (a .sums .now) (a .gap .0) (a .limit .bounded) (a .limit .most .0) (a .fit .now))
 
 larger-requires : tie.Need-larger-requires Inv-loop μ-loop
 larger-requires c κs = tt
@@ -49,7 +49,7 @@ loop-again c =
     let t = c .before .before .loop-test .taken in (
       simp length-set (l .inv .0),
       omega (arith, t),
-      fit-more (a .sums .now) (a .gap .0) (a .bounded) (a .limit .0) (l .fit) (l .start) (l .end) (c .stretch .result) t (omega (arith, l .inv .0, st .pre .0)) (l .inv .2) (rw (c .before .larger .ensures) at (c .stretch .ensures)),
+      fit-more (a .sums .now) (a .gap .0) (a .limit .bounded) (a .limit .most .0) (l .fit) (l .start) (l .end) (c .stretch .result) t (omega (arith, l .inv .0, st .pre .0)) (l .inv .2) (rw (c .before .larger .ensures) at (c .stretch .ensures)),
     )
 
 same-length : tie.Need-same-length Inv-loop μ-loop

@@ -10,10 +10,10 @@ use Rattle.balance.proofs.tables.stretch.Statement.{statement}
 use Rattle.balance.proofs.tables.stretch.Tie as tie
 
 abbrev Inv-loop : tie.InvT-loop
-Inv-loop sums gap bounded limit start from end₀ end = Stretched sums (gap .0) bounded (limit .0) start from end
+Inv-loop sums gap limit start from end₀ end = Stretched sums (gap .0) (limit .bounded) (limit .most .0) start from end
 
 abbrev μ-loop : tie.MeasureT-loop
-μ-loop sums gap bounded limit start from end₀ end = length sums - end
+μ-loop sums gap limit start from end₀ end = length sums - end
 
 loop-holds : tie.Need-loop-holds Inv-loop μ-loop
 loop-holds c = record { lo = le-refl (c .before .args .from); hi = c .before .pre .1; taken = inl refl }

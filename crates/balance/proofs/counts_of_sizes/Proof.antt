@@ -1,24 +1,24 @@
--- `balance::run` meets its contract. Assumes nothing.
+-- `balance::counts_of_sizes` meets its contract. Assumes nothing.
 use mathlib.Core.Path.{_≡_, sym, _∙_}
 use native.Mathlib.Omega.{arith}
 use lib.ListN.{length}
 use borrow.Author.Needs.{needs}
-use Rattle.balance.proofs.SpaceLaws.{run-in, run-out}
-use Rattle.balance.proofs.run.Statement.{statement}
-use Rattle.balance.proofs.run.Tie as tie
+use Rattle.balance.proofs.RunLaws.{run-in, run-out}
+use Rattle.balance.proofs.counts_of_sizes.Statement.{statement}
+use Rattle.balance.proofs.counts_of_sizes.Tie as tie
 
 add-up-requires : tie.Need-add-up-requires
 add-up-requires c κs = search needs
 
-balance-requires : tie.Need-balance-requires
-balance-requires c κs =
+line-item-counts-requires : tie.Need-line-item-counts-requires
+line-item-counts-requires c κs =
     let st = c .before .before .before .before .before .before .before .before .before .before .before .before .before .before .before .before .before .before .before .before .before in
     let a = st .args in
     let p = st .pre .0 in
     let q = st .pre .1 in
     let au = c .before .before .before .before .before .before .before .before .before .before .add-up in
     let sl : length (au .last .1 .1 .0) ≡ length (a .sizes .now) = au .kept .1 .1 .0 ∙ q .0 in (
-      (run-in (a .sizes .now) (a .gap .0) (a .bounded) (a .limit .0) (au .last .1 .1 .0) (au .ensures) (p .0), omega (arith, p .1, sl), omega (arith, p .2, sl)),
+      (run-in (a .sizes .now) (a .gap .0) (a .limit .bounded) (a .limit .most .0) (au .last .1 .1 .0) (au .ensures) (p .0), omega (arith, p .1, sl), omega (arith, p .2, sl)),
       (q .1 ∙ sym sl, q .2 ∙ sym sl, q .3 ∙ sym sl, q .4 ∙ sym sl, q .5 ∙ sym sl, rw sl (q .6), q .7 ∙ sym sl),
     )
 
@@ -51,18 +51,20 @@ same-length-8 c = search needs
 
 returns : tie.Need-returns
 returns c =
-    let a = c .before .before .before .before .before .before .before .before .before .before .before .before .before .before .before .before .before .before .before .before .before .before .before .before .before .before .before .before .before .before .before .before .before .before .before .before .before .before .before .before .args in
+    let st = c .before .before .before .before .before .before .before .before .before .before .before .before .before .before .before .before .before .before .before .before .before .before .before .before .before .before .before .before .before .before .before .before .before .before .before .before .before .before .before .before in
+    let a = st .args in
+    let q = st .pre .1 in
     let au = c .before .before .before .before .before .before .before .before .before .before .before .before .before .before .before .before .before .before .before .before .before .before .before .before .before .before .before .before .before .add-up in
-    let ba = c .before .before .before .before .before .before .before .before .before .before .before .before .before .before .before .before .before .before .balance in
+    let ba = c .before .before .before .before .before .before .before .before .before .before .before .before .before .before .before .before .before .before .line-item-counts in
     let cl = c .before .before .clear in
-    run-out (a .sizes .now) (a .gap .0) (a .bounded) (a .limit .0) (au .last .1 .1 .0) (a .minimum) (ba .result) (ba .last .1 .1 .1 .1 .1 .1 .1 .1 .1 .1 .1 .0) (cl .last .0) (au .ensures) (cl .kept .0) (cl .ensures .0) (cl .ensures .1) (ba .ensures)
+    run-out (a .sizes .now) (a .gap .0) (a .limit .bounded) (a .limit .most .0) (au .last .1 .1 .0) (a .minimum) (ba .result) (ba .last .1 .1 .1 .1 .1 .1 .1 .1 .1 .1 .0) (cl .last .0) (au .ensures) (au .kept .1 .1 .0 ∙ q .0) (ba .kept .1 .1 .1 .1 .1 .1 .1 .1 .1 .1 .0 ∙ q .7) (cl .ensures) (ba .ensures)
 
-pub run-spec : {M : Type 1} → statement M
-run-spec =
+pub counts-of-sizes-spec : {M : Type 1} → statement M
+counts-of-sizes-spec =
     tie.close
     (tie.spec
     add-up-requires
-    balance-requires
+    line-item-counts-requires
     clear-requires
     same-length
     same-length-2
