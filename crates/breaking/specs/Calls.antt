@@ -39,22 +39,9 @@ outerSum gap sizes = sumUpTo (λ i. natAbs (sixtyFourths (getD sizes i nan)) + n
 unfoldable pub breakingVerdict : List Number → AvailableSpace → Float → List Float → Bool → Verdict
 breakingVerdict codes limit gap sizes room = then (shape (length sizes) room) (checked (breakingInput codes limit gap sizes) (summed (outerSum gap sizes)))
 
--- what breaking works on once the checks have passed
-pub record Breakable (limit : AvailableSpace) (gap : Float) (sizes : List Float) : Type 0 where
-  pub few : length sizes ≤ 1024
-  pub each : Lengths sizes
-  pub spacing : grid.Length gap
-  pub gap-not-below-0 : (z : ℕ) × (sixtyFourths gap ≡ lib.IntN.pos z)
-  pub limit-is : (x : Float) → limit ≡ Definite x → grid.Length x
-  pub small : outerSum gap sizes ≤ 16777216
-
 -- sizes in whole sixty-fourths
 abbrev pub units : List Float → List ℤ
 units sizes = map sixtyFourths sizes
-
--- where the line that starts at an item ends: it takes that item, and then as many as fit
-abbrev pub LineEnd : AvailableSpace → Float → List Float → ℕ → ℕ → Type 0
-LineEnd limit gap sizes start r = r ≡ start + suc (taken (limitOf limit) (sixtyFourths gap) (getD (units sizes) start (lib.IntN.pos 0) ∷ []) (drop (suc start) (units sizes)))
 
 -- "n cells for each answer list (by line, as counts, cells past the last line get 0)", and the cells past those unchanged
 abbrev pub written : ℕ → List ℕ → List ℕ → List ℕ

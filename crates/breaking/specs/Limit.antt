@@ -38,11 +38,11 @@ numberOr MaxContent maximum = maximum
 
 -- "if the container has no definite main size, lower it to the maximum"
 abbrev pub underMaximum : Query → Float → Float
-underMaximum q maximum = cond (q .main_is_definite) (numberOr (q .available) maximum) (lowered (numberOr (q .available) maximum) maximum)
+underMaximum q maximum = cond (q .«main_is_definite») (numberOr (q .available) maximum) (lowered (numberOr (q .available) maximum) maximum)
 
 -- "With no maximum, a column without a definite main size turns a definite space into max-content; all else passes unchanged."
 abbrev pub withoutMaximum : Query → AvailableSpace → AvailableSpace
-withoutMaximum q (Definite x) = cond (q .is_row) (Definite (cleaned x)) (cond (q .main_is_definite) (Definite (cleaned x)) MaxContent)
+withoutMaximum q (Definite x) = cond (q .«is_row») (Definite (cleaned x)) (cond (q .«main_is_definite») (Definite (cleaned x)) MaxContent)
 withoutMaximum q MinContent = MinContent
 withoutMaximum q MaxContent = MaxContent
 
@@ -52,7 +52,7 @@ byMaximum q (Given maximum) = Definite (cleaned (raisedTo (q .minimum) (underMax
 
 -- "If the known main size isn't definite: max-content. Else .."
 abbrev pub breakLimit : Query → AvailableSpace
-breakLimit q = cond (q .known_is_definite) (byMaximum q (q .maximum)) MaxContent
+breakLimit q = cond (q .«known_is_definite») (byMaximum q (q .maximum)) MaxContent
 
 -- ---- the numbers that the call takes, all of them the container's, whatever the answer turns on
 

@@ -9,7 +9,8 @@ ghost use Rattle.refusal.specs.Domain.{Number};
 ghost use Rattle.refusal.specs.Marks.{leastOf};
 ghost use Rattle.breaking.specs.Limit.{lowered, raised, raisedTo, numberOr, underMaximum, withoutMaximum, byMaximum, breakLimit, spaceNumbers, boundNumbers, limitCall};
 ghost use Rattle.breaking.specs.Breaking.{limitOf, fits, greedy};
-ghost use Rattle.breaking.specs.Calls.{breakingVerdict, Breakable, LineEnd, units, written, broken, greedyCall};
+ghost use Rattle.breaking.specs.Calls.{breakingVerdict, units, broken, greedyCall};
+ghost use Rattle.breaking.specs.Steps.{LengthLimit, Breakable, LineEnd, Counted, cleared};
 use refusal::Answer;
 use refusal::Kind;
 use refusal::Mark;
@@ -78,7 +79,8 @@ fn number_or(available: AvailableSpace, maximum: f32) -> f32
 fn under_maximum(q: Query, maximum: f32) -> f32
     ensures { λ r. ⌜ r ≡ underMaximum q maximum ⌝ }
 {
-    let x = number_or(q.available, maximum);
+    let available = q.available;
+    let x = number_or(available, maximum);
     if q.main_is_definite {
         x
     } else {
@@ -104,19 +106,28 @@ fn without_maximum(q: Query, available: AvailableSpace) -> AvailableSpace
     }
 }
 
+fn by_maximum(q: Query, maximum: Bound) -> AvailableSpace
+    ensures { λ r. ⌜ r ≡ byMaximum q maximum ⌝ }
+{
+    let available = q.available;
+    let minimum = q.minimum;
+    match maximum {
+        Bound::Absent => without_maximum(q, available),
+        Bound::Given(high) => {
+            let x = raise_to(minimum, under_maximum(q, high));
+            AvailableSpace::Definite(grid::clean(x))
+        }
+    }
+}
+
 fn limit_of(q: Query) -> AvailableSpace
     ensures { λ r. ⌜ r ≡ breakLimit q ⌝ }
 {
-    if !q.known_is_definite {
-        return AvailableSpace::MaxContent;
-    }
     let maximum = q.maximum;
-    match maximum {
-        Bound::Absent => without_maximum(q, q.available),
-        Bound::Given(high) => AvailableSpace::Definite(grid::clean(raise_to(
-            q.minimum,
-            under_maximum(q, high),
-        ))),
+    if q.known_is_definite {
+        by_maximum(q, maximum)
+    } else {
+        AvailableSpace::MaxContent
     }
 }
 
@@ -143,17 +154,21 @@ fn mark_bound(bound: Bound) -> Mark
 pub fn break_limit(q: Query) -> BreakLimit
     ensures { λ r. ⌜ r ≡ limitCall q ⌝ }
 {
-    let bounds = refusal::least(mark_bound(q.minimum), mark_bound(q.maximum));
-    let m = refusal::least(mark_space(q.available), bounds);
+    let available = q.available;
+    let minimum = q.minimum;
+    let maximum = q.maximum;
+    let bounds = refusal::least(mark_bound(minimum), mark_bound(maximum));
+    let m = refusal::least(mark_space(available), bounds);
     match refusal::judge(m) {
         Verdict::Refused(why) => BreakLimit::Refused(why),
         Verdict::Passed => BreakLimit::Limit(limit_of(q)),
     }
 }
 
-// Whether a line of several items, of this size, fits. Both breakers take it from here.
+// Whether a line of several items, of this size, fits. Both breakers take it from here, once the limit has passed the checks: no entry point.
 pub fn line_fits(limit: AvailableSpace, size: f32) -> bool
-    ensures { λ r. ⌜ ((y z : ℤ) → ((x : lib.Ieee.Float) → limit ≡ AvailableSpace.Definite x → At 64 x y) → At 64 size z → r ≡ fits (limitOf limit) z) ⌝ }
+    requires { ⌜ LengthLimit limit ⌝ }
+    ensures { λ r. ⌜ ((z : ℤ) → At 64 size z → r ≡ fits (limitOf limit) z) ⌝ }
 {
     match limit {
         AvailableSpace::Definite(x) => size <= x,
@@ -163,13 +178,7 @@ pub fn line_fits(limit: AvailableSpace, size: f32) -> bool
 }
 
 // Checks 1 to 6 of a breaking call. `codes` is the mark of codes that were taken before the limit.
-pub fn check_breaking(
-    codes: Mark,
-    limit: AvailableSpace,
-    gap: f32,
-    sizes: &[f32],
-    room: bool,
-) -> Verdict
+pub fn check_breaking(codes: Mark, limit: AvailableSpace, gap: f32, sizes: &[f32], room: bool) -> Verdict
     ensures { λ r. ⌜ ((cs : List Number) → codes .0 ≡ leastOf cs 0 → r ≡ breakingVerdict cs limit gap (now (sizes .entry)) room) ⌝ }
 {
     let shape = refusal::check_shape(sizes.len(), room);
@@ -204,10 +213,10 @@ fn line_end(sizes: &[f32], gap: f32, limit: AvailableSpace, start: usize) -> usi
     i
 }
 
-// The counts by line in the first cells, and 0 in the others of the first n.
+// The counts by line, in the first cells.
 fn greedy_counts(sizes: &[f32], gap: f32, limit: AvailableSpace, counts: &mut [u32]) -> usize
     requires { ⌜ Breakable limit gap (now sizes) × (length (now sizes) ≤ length (now counts)) ⌝ }
-    ensures { λ r. ⌜ (r ≡ length (greedy (limitOf limit) (sixtyFourths gap) (units (now (sizes .entry))))) × (now (counts .exit) ≡ written (length (now (sizes .entry))) (greedy (limitOf limit) (sixtyFourths gap) (units (now (sizes .entry)))) (now (counts .entry))) ⌝ }
+    ensures { λ r. ⌜ Counted (greedy (limitOf limit) (sixtyFourths gap) (units (now (sizes .entry)))) (now (counts .entry)) r (now (counts .exit)) ⌝ }
 {
     let mut start = 0;
     let mut n = 0;
@@ -217,29 +226,31 @@ fn greedy_counts(sizes: &[f32], gap: f32, limit: AvailableSpace, counts: &mut [u
         n += 1;
         start = end;
     }
-    let mut i = n;
-    while i < sizes.len() {
+    n
+}
+
+// Cells past the last line get 0. Both breakers take it from here: no entry point.
+pub fn clear_counts(counts: &mut [u32], from: usize, to: usize)
+    requires { ⌜ (from ≤ to) × (to ≤ length (now counts)) ⌝ }
+    ensures { λ r. ⌜ now (counts .exit) ≡ cleared from to (now (counts .entry)) ⌝ }
+{
+    let mut i = from;
+    while i < to {
         counts[i] = 0;
         i += 1;
     }
-    n
 }
 
 // Greedy breaking of any bits.
 pub fn greedy(limit: AvailableSpace, gap: f32, sizes: &[f32], counts: &mut [u32]) -> Answer
     ensures { λ r. ⌜ broken r (now (counts .exit)) ≡ greedyCall limit gap (now (sizes .entry)) (now (counts .entry)) ⌝ }
 {
-    let v = check_breaking(
-        refusal::no_mark(),
-        limit,
-        gap,
-        sizes,
-        sizes.len() <= counts.len(),
-    );
+    let v = check_breaking(refusal::no_mark(), limit, gap, sizes, sizes.len() <= counts.len());
     match v {
         Verdict::Refused(why) => Answer::Refused(why),
         Verdict::Passed => {
             let n = greedy_counts(sizes, gap, limit, counts);
+            clear_counts(counts, n, sizes.len());
             Answer::Done {
                 lines: n as u32,
                 rounds: 0,

@@ -1,0 +1,5 @@
+pub mod Taken
+pub mod Lines
+pub mod Line
+pub mod Counts
+pub mod Accepted
