@@ -8,7 +8,7 @@ use native.Mathlib.Omega.{arith}
 use lib.Dec.{T}
 use lib.ListN.{length, getD, replicate, length-map}
 use lib.IntN.{ℤ, pos, negsuc, negℤ, natAbs}
-use lib.Ieee.{Float, nan, inf, fin, isNan}
+use lib.Ieee.{Float, nan, inf, fin, binary64, isNan, neg, ofBits}
 use lib.Ieee.Exact.{HasValue}
 use Rattle.grid.specs.Grid.{At, onGrid, Length, sixtyFourths, signed}
 use Rattle.grid.proofs.Meaning.{at-of-grid}
@@ -16,7 +16,8 @@ use Rattle.refusal.specs.Marks.{sumUpTo}
 use Rattle.breaking.specs.declared.AvailableSpace.{AvailableSpace}
 use Rattle.breaking.specs.declared.AvailableSpace.the-variants.{Definite, MinContent, MaxContent}
 use Rattle.breaking.specs.Breaking.{limitOf}
-use Rattle.breaking.specs.Calls.{Breakable, units, outerSum}
+use Rattle.breaking.specs.Calls.{units, outerSum}
+use Rattle.breaking.specs.Steps.{Breakable, LengthLimit}
 use Rattle.balance.specs.Sizes.{pre}
 use Rattle.balance.specs.Pixels.{scaledF, SizeIs, SizeOut, SizesAre}
 use Rattle.balance.specs.Tables.{LimitIs}
@@ -56,6 +57,25 @@ limit-is x l =
     let a = at-of-grid x (l .grid) in
     subst (λ (z : ℤ). LimitIs (natural (Rattle.breaking.specs.Breaking.definite z)) true (scaledF x)) (a .total)
     (limit-pixels x (a .sign) (a .size) (omega (arith, l .small, ap natAbs (a .total), abs-signed (a .sign) (a .size))) (a .value))
+
+-- ---- the limit, by its cases
+definite-length : (limit : AvailableSpace) (x : Float) → limit ≡ Definite x → LengthLimit limit → Length x
+definite-length limit x e l = rw e at l
+
+pub definite-not-nan : (limit : AvailableSpace) (x : Float) → limit ≡ Definite x → LengthLimit limit → T (not (isNan x))
+definite-not-nan limit x e l = not-nan x (definite-length limit x e l)
+
+pub cap-definite : (limit : AvailableSpace) (x r : Float) → limit ≡ Definite x → LengthLimit limit → r ≡ scaledF x → LimitIs (natural (limitOf limit)) true r
+unfolding limitOf
+cap-definite limit x r e l q = rw (e, q) (limit-is x (definite-length limit x e l))
+
+pub cap-min : (limit : AvailableSpace) → limit ≡ MinContent → LimitIs (natural (limitOf limit)) true (neg (ofBits binary64 4607182418800017408))
+unfolding limitOf ofBits neg
+cap-min limit e = rw e (limit-below 0 (neg (ofBits binary64 4607182418800017408)) (refl, refl))
+
+pub cap-max : (limit : AvailableSpace) → limit ≡ MaxContent → LimitIs (natural (limitOf limit)) false (ofBits binary64 0)
+unfolding limitOf
+cap-max limit e = rw e (limit-max (ofBits binary64 0))
 
 -- ---- the sizes
 size-le : (z : ℤ) → size z ≤ natAbs z
@@ -123,3 +143,9 @@ module _ (limit : AvailableSpace) (gap : Float) (sizes : List Float) (B : Breaka
         lines = O .lines;
         counts-are = O .counts-are;
       }
+
+-- no items
+pub none-divided : (limit : AvailableSpace) (gap : Float) (minimum : ℕ) (sizes : List Float) (counts : List ℕ) → length sizes ≡ 0 → length counts ≡ length sizes → Divided limit gap minimum sizes 0 counts
+none-divided limit gap minimum [] [] e h = record { division = []; balanced = none-balanced (limitOf limit) (sixtyFourths gap) minimum; lines = refl; counts-are = refl }
+none-divided limit gap minimum [] (x ∷ counts) e h = absurd (omega arith)
+none-divided limit gap minimum (x ∷ sizes) counts e h = absurd (omega arith)

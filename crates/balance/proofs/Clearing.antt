@@ -1,47 +1,46 @@
--- Clearing a list from some cell on, up to i: what a loop that sets one cell a turn leaves, for cells of any type. Assumes nothing.
-use mathlib.Core.Path.{_≡_, sym, ap, _∙_}
-use mathlib.Core.Logic.{_⊎_, inl, inr, _≢_}
-use mathlib.Core.List.{List, _++_}
-use Prim.Native.Nat.{ℕ, _+_, _-_, _≤_, _<_, min}
+-- Clearing a list, up to i: what a loop that sets one cell a turn leaves, for cells of any type. Assumes nothing.
+use mathlib.Core.Path.{_≡_, refl, sym, ap, _∙_}
+use mathlib.Core.Logic.{_≢_}
+use mathlib.Core.List.{List, [], _∷_, _++_, append-nil}
+use Prim.Native.Nat.{ℕ, _+_, _-_, _≤_, _<_}
 use native.Mathlib.Nat.{sub-zero}
 use native.Mathlib.Omega.{arith}
-use lib.ListN.{length, getD, set, take, replicate, length-set, length-append, length-take, length-replicate, getD-replicate, List·getD-append}
-use lib.Seq.{ext-getD, getD-take, getD-append-add, getD-set-same, getD-set-other}
-use Rattle.balance.proofs.DpLaws.{lt-or-ge, Order, order, less, same, more}
+use lib.ListN.{length, getD, set, take, drop, replicate, length-set, length-replicate, getD-replicate, drop-of-length-le}
+use lib.Seq.{ext-getD, getD-set-same, getD-set-other}
+use Rattle.breaking.specs.Steps.{cleared}
+use Rattle.balance.proofs.DpLaws.{Order, order, less, same, more}
 
 module _ {A : Type 0} (z : A) where
-  pub record ClearSoFar (a₀ : List A) (from : ℕ) (a : List A) (i : ℕ) : Type 0 where
+  pub record ClearSoFar (a₀ a : List A) (i : ℕ) : Type 0 where
     pub same-length : length a ≡ length a₀
-    pub kept : (j : ℕ) → j < from → getD a j z ≡ getD a₀ j z
-    pub cleared : (j : ℕ) → from ≤ j → j < i → getD a j z ≡ z
+    pub cleared : (j : ℕ) → j < i → getD a j z ≡ z
 
-  pub clear-more : (a₀ : List A) (from : ℕ) (a : List A) (i : ℕ) → from ≤ i → i < length a → ClearSoFar a₀ from a i → ClearSoFar a₀ from (set a i z) (i + 1)
-  clear-more a₀ from a i f h C = record {
-    same-length = length-set a i z ∙ C .same-length;
-    kept = λ j p. getD-set-other a i j z z (omega arith) ∙ C .kept j p;
-    cleared = λ j p q. go j p (order j i) q;
-  }
+  pub clear-more : (a₀ a : List A) (i : ℕ) → i < length a → ClearSoFar a₀ a i → ClearSoFar a₀ (set a i z) (i + 1)
+  clear-more a₀ a i h C = record { same-length = length-set a i z ∙ C .same-length; cleared = λ j p. go j p (order j i) }
     where
-      go : (j : ℕ) → from ≤ j → Order j i → j < i + 1 → getD (set a i z) j z ≡ z
-      go j p (less l) q = getD-set-other a i j z z (let u : j ≢ i = omega arith in u) ∙ C .cleared j p l
-      go j p (same l) q = rw l (getD-set-same a i z z h)
-      go j p (more l) q = absurd (omega arith)
+      go : (j : ℕ) → j < i + 1 → Order j i → getD (set a i z) j z ≡ z
+      go j p (less l) = getD-set-other a i j z z (let u : j ≢ i = omega arith in u) ∙ C .cleared j l
+      go j p (same l) = rw l (getD-set-same a i z z h)
+      go j p (more l) = absurd (omega arith)
 
-  pub clear-end : (a₀ : List A) (from : ℕ) (a : List A) (i : ℕ) → length a ≤ i → ClearSoFar a₀ from a i → a ≡ take from a₀ ++ replicate (length a₀ - from) z
-  clear-end a₀ from a i h C = ext-getD z a (take from a₀ ++ replicate (length a₀ - from) z) lengths (λ j l. go j l (lt-or-ge j from))
-    where
-      lengths : length a ≡ length (take from a₀ ++ replicate (length a₀ - from) z)
-      lengths = omega (arith, C .same-length, length-append (take from a₀) (replicate (length a₀ - from) z), length-take from a₀, length-replicate (length a₀ - from) z)
+  pub clear-end : (a₀ a : List A) (i : ℕ) → length a ≤ i → ClearSoFar a₀ a i → a ≡ replicate (length a₀) z
+  clear-end a₀ a i h C =
+      ext-getD z a (replicate (length a₀) z) (omega (arith, C .same-length, length-replicate (length a₀) z))
+      (λ j l. C .cleared j (omega arith) ∙ sym (getD-replicate (length a₀) j z z (omega (arith, C .same-length))))
 
-      go : (j : ℕ) → j < length a → (j < from) ⊎ (from ≤ j) → getD a j z ≡ getD (take from a₀ ++ replicate (length a₀ - from) z) j z
-      go j l (inl p) =
-          C .kept j p ∙ sym (getD-take from a₀ j z p)
-          ∙ sym (List·getD-append (take from a₀) (replicate (length a₀ - from) z) z j (omega (arith, C .same-length, length-take from a₀)))
-      go j l (inr p) =
-          let e : length (take from a₀) + (j - from) ≡ j = omega (arith, C .same-length, length-take from a₀) in
-          C .cleared j p (omega arith) ∙ sym (getD-replicate (length a₀ - from) (j - from) z z (omega (arith, C .same-length)))
-          ∙ sym (getD-append-add (take from a₀) (replicate (length a₀ - from) z) (j - from) z)
-          ∙ rw e
+-- counts cleared from some cell to the last
+pub clear-rest : (from n : ℕ) (l : List ℕ) → length l ≡ n → cleared from n l ≡ take from l ++ replicate (n - from) 0
+clear-rest from n l e = ap (λ (r : List ℕ). take from l ++ (replicate (n - from) 0 ++ r)) (drop-of-length-le l {i = n} (omega arith)) ∙ ap (λ (r : List ℕ). take from l ++ r) (append-nil (replicate (n - from) 0))
 
-  pub clear-all : (a₀ a : List A) → a ≡ take 0 a₀ ++ replicate (length a₀ - 0) z → a ≡ replicate (length a₀) z
-  clear-all a₀ a e = e ∙ ap (λ (n : ℕ). replicate n z) (sub-zero (length a₀))
+-- and from the first
+pub clear-all : (n : ℕ) (l : List ℕ) → n ≡ length l → cleared 0 n l ≡ replicate (length l) 0
+clear-all n l e = clear-rest 0 n l (sym e) ∙ ap (λ (k : ℕ). replicate k 0) (sub-zero n ∙ e)
+
+-- lists that a call kept as long as they were
+pub clear-kept : {A : Type 0} (z : A) (before mid now : List A) → now ≡ replicate (length mid) z → length mid ≡ length before → now ≡ replicate (length before) z
+clear-kept z before mid now e k = e ∙ ap (λ (n : ℕ). replicate n z) k
+
+-- a list of no cells
+pub clear-none : {A : Type 0} (z : A) (n : ℕ) (l : List A) → n ≡ 0 → length l ≡ n → l ≡ replicate (length l) z
+clear-none z n [] e h = refl
+clear-none z n (x ∷ l) e h = absurd (omega arith)

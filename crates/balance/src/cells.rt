@@ -1,10 +1,10 @@
 // Cells and small numbers: what every stage of balanced breaking reads and writes with.
 ghost use mathlib.Core.Path.{_≡_};
-ghost use mathlib.Core.List.{_++_};
 ghost use Prim.Native.Nat.{_-_, _<_, min, max};
-ghost use lib.ListN.{length, getD, take, replicate};
+ghost use lib.ListN.{length, getD, replicate};
 ghost use lib.Ieee.{binary64, ofBits};
 ghost use Rattle.balance.specs.Run.{Cleared, ClearedF};
+use breaking::clear_counts;
 
 // The number in cell `i`.
 pub fn at(a: &[u32], i: usize) -> usize
@@ -39,17 +39,6 @@ pub fn less_one(x: usize) -> usize
     if x == 0 { 0 } else { x - 1 }
 }
 
-// Sets the cells from `from` on to 0.
-pub fn clear(a: &mut [u32], from: usize)
-    ensures { λ _. ⌜ now (a .exit) ≡ take from (now (a .entry)) ++ replicate (length (now (a .entry)) - from) 0 ⌝ }
-{
-    let mut i = from;
-    while i < a.len() {
-        a[i] = 0;
-        i += 1;
-    }
-}
-
 // Sets all cells to 0.
 pub fn clear_floats(a: &mut [f64])
     ensures { λ _. ⌜ now (a .exit) ≡ replicate (length (now (a .entry))) (ofBits binary64 0) ⌝ }
@@ -73,10 +62,10 @@ pub fn clear_work(
 )
     ensures { λ _. ⌜ Cleared (now (opts .entry)) (now (opts .exit)) × Cleared (now (fit .entry)) (now (fit .exit)) × Cleared (now (greedy .entry)) (now (greedy .exit)) × Cleared (now (reach .entry)) (now (reach .exit)) × ClearedF (now (sums .entry)) (now (sums .exit)) × ClearedF (now (prev .entry)) (now (prev .exit)) × ClearedF (now (cur .entry)) (now (cur .exit)) ⌝ }
 {
-    clear(opts, 0);
-    clear(fit, 0);
-    clear(greedy, 0);
-    clear(reach, 0);
+    clear_counts(opts, 0, opts.len());
+    clear_counts(fit, 0, fit.len());
+    clear_counts(greedy, 0, greedy.len());
+    clear_counts(reach, 0, reach.len());
     clear_floats(sums);
     clear_floats(prev);
     clear_floats(cur);

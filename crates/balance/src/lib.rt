@@ -3,18 +3,17 @@ ghost use mathlib.Core.Bool.{not};
 ghost use Prim.Native.Nat.{ℕ, _+_, _*_, _≤_, _<_};
 ghost use lib.Dec.{T};
 ghost use lib.ListN.{length, getD};
-ghost use lib.Ieee.{Float, isNan, nan};
+ghost use lib.Ieee.{isNan, nan};
 ghost use Rattle.balance.specs.Program.{BalanceIn, BalanceOut};
 ghost use Rattle.balance.specs.Reading.{Readable, ReadOut};
-ghost use Rattle.grid.specs.Grid.{Length};
 ghost use Rattle.breaking.specs.Breaking.{limitOf};
-ghost use Rattle.breaking.specs.Calls.{Breakable};
+ghost use Rattle.breaking.specs.Steps.{Breakable, LengthLimit};
 ghost use Rattle.balance.specs.Tables.{LimitIs};
 ghost use Rattle.balance.specs.Run.{natural, RunIn, RunOut, Divided, Cleared, ClearedF};
 ghost use mathlib.Core.Path.{_≡_};
 use breaking::AvailableSpace;
+use breaking::clear_counts;
 use cells::at;
-use cells::clear;
 use cells::clear_work;
 use cells::larger;
 use cells::smaller;
@@ -116,13 +115,13 @@ fn counts_of_sizes(
         opts,
         counts,
     );
-    clear(counts, k);
+    clear_counts(counts, k, sizes.len());
     k
 }
 
 // The limit in sixty-fourths. Under min-content no line of several items fits, and no size is below 0.
 fn cap(limit: AvailableSpace) -> Cap
-    requires { ⌜ ((x : Float) → limit ≡ AvailableSpace.Definite x → Length x) ⌝ }
+    requires { ⌜ LengthLimit limit ⌝ }
     ensures { λ r. ⌜ LimitIs (natural (limitOf limit)) (r .bounded) (r .most .0) ⌝ }
 {
     match limit {

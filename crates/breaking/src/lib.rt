@@ -178,7 +178,13 @@ pub fn line_fits(limit: AvailableSpace, size: f32) -> bool
 }
 
 // Checks 1 to 6 of a breaking call. `codes` is the mark of codes that were taken before the limit.
-pub fn check_breaking(codes: Mark, limit: AvailableSpace, gap: f32, sizes: &[f32], room: bool) -> Verdict
+pub fn check_breaking(
+    codes: Mark,
+    limit: AvailableSpace,
+    gap: f32,
+    sizes: &[f32],
+    room: bool,
+) -> Verdict
     ensures { λ r. ⌜ ((cs : List Number) → codes .0 ≡ leastOf cs 0 → r ≡ breakingVerdict cs limit gap (now (sizes .entry)) room) ⌝ }
 {
     let shape = refusal::check_shape(sizes.len(), room);
@@ -245,7 +251,13 @@ pub fn clear_counts(counts: &mut [u32], from: usize, to: usize)
 pub fn greedy(limit: AvailableSpace, gap: f32, sizes: &[f32], counts: &mut [u32]) -> Answer
     ensures { λ r. ⌜ broken r (now (counts .exit)) ≡ greedyCall limit gap (now (sizes .entry)) (now (counts .entry)) ⌝ }
 {
-    let v = check_breaking(refusal::no_mark(), limit, gap, sizes, sizes.len() <= counts.len());
+    let v = check_breaking(
+        refusal::no_mark(),
+        limit,
+        gap,
+        sizes,
+        sizes.len() <= counts.len(),
+    );
     match v {
         Verdict::Refused(why) => Answer::Refused(why),
         Verdict::Passed => {

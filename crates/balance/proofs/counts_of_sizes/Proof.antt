@@ -3,6 +3,7 @@ use mathlib.Core.Path.{_≡_, sym, _∙_}
 use native.Mathlib.Omega.{arith}
 use lib.ListN.{length}
 use borrow.Author.Needs.{needs}
+use Rattle.balance.proofs.Clearing.{clear-rest}
 use Rattle.balance.proofs.RunLaws.{run-in, run-out}
 use Rattle.balance.proofs.counts_of_sizes.Statement.{statement}
 use Rattle.balance.proofs.counts_of_sizes.Tie as tie
@@ -22,8 +23,12 @@ line-item-counts-requires c κs =
       (q .1 ∙ sym sl, q .2 ∙ sym sl, q .3 ∙ sym sl, q .4 ∙ sym sl, q .5 ∙ sym sl, rw sl (q .6), q .7 ∙ sym sl),
     )
 
-clear-requires : tie.Need-clear-requires
-clear-requires c κs = search needs
+clear-counts-requires : tie.Need-clear-counts-requires
+clear-counts-requires c κs =
+    let st = c .before .before .before .before .before .before .before .before .before .before .before .before .before .before .before .before .before .before .before .before .before .before .before .before .before .before .before .before .before .before .before .before .before .before .before .before .before in
+    let ba = c .before .before .before .before .before .before .before .before .before .before .before .before .before .before .before .line-item-counts in
+    let au = c .before .before .before .before .before .before .before .before .before .before .before .before .before .before .before .before .before .before .before .before .before .before .before .before .before .before .add-up in
+    (omega (arith, ba .ensures .few, au .kept .1 .1 .0, st .pre .1 .0), omega (arith, ba .kept .1 .1 .1 .1 .1 .1 .1 .1 .1 .1 .0, st .pre .1 .7))
 
 same-length : tie.Need-same-length
 same-length c = search needs
@@ -56,8 +61,8 @@ returns c =
     let q = st .pre .1 in
     let au = c .before .before .before .before .before .before .before .before .before .before .before .before .before .before .before .before .before .before .before .before .before .before .before .before .before .before .before .before .before .add-up in
     let ba = c .before .before .before .before .before .before .before .before .before .before .before .before .before .before .before .before .before .before .line-item-counts in
-    let cl = c .before .before .clear in
-    run-out (a .sizes .now) (a .gap .0) (a .limit .bounded) (a .limit .most .0) (au .last .1 .1 .0) (a .minimum) (ba .result) (ba .last .1 .1 .1 .1 .1 .1 .1 .1 .1 .1 .0) (cl .last .0) (au .ensures) (au .kept .1 .1 .0 ∙ q .0) (ba .kept .1 .1 .1 .1 .1 .1 .1 .1 .1 .1 .0 ∙ q .7) (cl .ensures) (ba .ensures)
+    let cl = c .before .before .clear-counts in
+    run-out (a .sizes .now) (a .gap .0) (a .limit .bounded) (a .limit .most .0) (au .last .1 .1 .0) (a .minimum) (ba .result) (ba .last .1 .1 .1 .1 .1 .1 .1 .1 .1 .1 .0) (cl .last .0) (au .ensures) (au .kept .1 .1 .0 ∙ q .0) (ba .kept .1 .1 .1 .1 .1 .1 .1 .1 .1 .1 .0 ∙ q .7) (cl .ensures ∙ clear-rest (ba .result) (length (a .sizes .now)) (ba .last .1 .1 .1 .1 .1 .1 .1 .1 .1 .1 .0) (ba .kept .1 .1 .1 .1 .1 .1 .1 .1 .1 .1 .0 ∙ q .7)) (ba .ensures)
 
 pub counts-of-sizes-spec : {M : Type 1} → statement M
 counts-of-sizes-spec =
@@ -65,7 +70,7 @@ counts-of-sizes-spec =
     (tie.spec
     add-up-requires
     line-item-counts-requires
-    clear-requires
+    clear-counts-requires
     same-length
     same-length-2
     same-length-3
