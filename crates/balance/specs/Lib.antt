@@ -1,4 +1,5 @@
 pub mod Rule
+pub mod Calls
 pub mod Natural
 pub mod Dp
 pub mod Ends
