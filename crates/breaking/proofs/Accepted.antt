@@ -1,29 +1,28 @@
 -- The checks of breaking: the least of the marks that the calls take is document 01's order of checks on their input, and what a pass says.
 -- By the laws of refusals, part by part: codes, limit, gap, items. Assumes nothing.
-use mathlib.Core.Path.{_≡_, refl, sym, ap, ap₂, _∙_, subst}
-use mathlib.Core.Bool.{Bool, true, false, cond, _||_}
+use mathlib.Core.Path.{_≡_, refl, sym, ap, ap₂, _∙_}
+use mathlib.Core.Bool.{Bool, true, false}
 use mathlib.Core.List.{List, [], _∷_, _++_, append-nil}
-use Prim.Native.Nat.{ℕ, zero, suc, _+_, _-_, _≤_, _<_, min, zero-le}
-use native.Mathlib.Nat.{le-refl}
+use Prim.Native.Nat.{ℕ, _+_, _-_, _≤_, min, zero-le}
 use native.Mathlib.Omega.{arith}
-use lib.Dec.{leb, ltb, T}
+use lib.Dec.{leb, ltb}
 use lib.ListN.{length, getD}
 use lib.IntN.{pos}
 use lib.Ieee.{Float, nan}
-use borrow.Author.Tests.{le-ltb, ltb-true, ltb-false, leb-true, leb-false}
+use borrow.Author.Tests.{le-ltb, ltb-false, leb-true, leb-false}
 use Rattle.grid.specs.Grid.{Length, sixtyFourths}
 use Rattle.refusal.specs.declared.Kind.the-variants as kind
 use Rattle.refusal.specs.declared.Refusal.{Refusal}
 use Rattle.refusal.specs.declared.Verdict.{Verdict}
 use Rattle.refusal.specs.declared.Verdict.the-variants.{Passed, Refused}
-use Rattle.refusal.specs.Domain.{Number, float, code, notFinite, offGrid, outOfRange, Input, any, check, checked, shape, summed, then, orElse}
-use Rattle.refusal.specs.Marks.{mark, leastOf, leastUpTo, leastMark, judged, Lengths, Fine, AllFine, Sound}
+use Rattle.refusal.specs.Domain.{Number, float, code, notFinite, offGrid, outOfRange, any, check, checked, shape, summed, then, orElse}
+use Rattle.refusal.specs.Marks.{mark, leastOf, leastUpTo, leastMark, judged, Lengths, AllFine, Sound}
 use Rattle.refusal.proofs.Order.{least-ext}
 use Rattle.refusal.proofs.Checks.{judged-checked, least-append, least-one, then-passed, shape-passed, summed-passed, accepted, fine-append, fine-length, fine-size, fine-code}
 use Rattle.breaking.specs.declared.AvailableSpace.{AvailableSpace}
 use Rattle.breaking.specs.declared.AvailableSpace.the-variants.{Definite, MinContent, MaxContent}
 use Rattle.breaking.specs.declared.Query.{Query}
-use Rattle.breaking.specs.Limit.{spaceNumbers, boundNumbers, limitInput}
+use Rattle.breaking.specs.Limit.{spaceNumbers, boundNumbers, limitInput, limitVerdict}
 use Rattle.breaking.specs.Calls.{breakingInput, outerSum, breakingVerdict}
 use Rattle.breaking.specs.Steps.{LengthLimit, Breakable}
 
@@ -48,15 +47,15 @@ none-more l = ap (λ (t : List Number). leastOf t 0) (sym (append-nil l)) ∙ le
 abbrev pub queryMark : Query → ℕ
 queryMark q = min (leastOf (spaceNumbers (q .available)) 0) (min (leastOf (boundNumbers (q .minimum)) 0) (leastOf (boundNumbers (q .maximum)) 0))
 
-pub query-checked : (q : Query) → judged (queryMark q) ≡ checked (limitInput q) Passed
+pub query-checked : (codes : List Number) (q : Query) → judged (min (leastOf codes 0) (queryMark q)) ≡ limitVerdict codes q
 unfolding leastUpTo
-query-checked q =
+query-checked codes q =
     let s = spaceNumbers (q .available) in
     let a = boundNumbers (q .minimum) in
     let b = boundNumbers (q .maximum) in
-    ap judged (sym (least-append s (a ++ b) 0 ∙ ap (min (leastOf s 0)) (least-append a b 0)) ∙ none-more (s ++ (a ++ b)))
-    ∙ sym (then-last (judged (leastMark (limitInput q))))
-    ∙ judged-checked (limitInput q) zero-le Passed
+    ap judged (sym (least-append codes (s ++ (a ++ b)) 0 ∙ ap (min (leastOf codes 0)) (least-append s (a ++ b) 0 ∙ ap (min (leastOf s 0)) (least-append a b 0))) ∙ none-more (codes ++ (s ++ (a ++ b))))
+    ∙ sym (then-last (judged (leastMark (limitInput codes q))))
+    ∙ judged-checked (limitInput codes q) zero-le Passed
 
 -- the mark of a breaking call: codes with this least mark, the limit and the gap, and then the items
 abbrev pub breakingMark : ℕ → AvailableSpace → Float → List Float → ℕ

@@ -1,8 +1,8 @@
 -- One line of greedy breaking: what its loop keeps, its start, a turn and its two ends, on plain values.
 -- The running size is exact: it is on the grid and at most the sum of the items before, gaps included. Assumes nothing.
-use mathlib.Core.Path.{_≡_, refl, sym, ap, _∙_, subst}
+use mathlib.Core.Path.{_≡_, sym, ap, _∙_, subst}
 use mathlib.Core.Bool.{Bool, true, false, cond}
-use mathlib.Core.List.{List, [], _∷_, map}
+use mathlib.Core.List.{List, []}
 use Prim.Native.Nat.{ℕ, zero, suc, _+_, _≤_, _<_}
 use mathlib.Core.Logic.{⊎-elim}
 use native.Mathlib.Nat.{le-trans, le-refl, le-of-eq, le-of-suc-le-suc, le-add-right, eq-or-lt-of-le, add-zero}
@@ -13,29 +13,23 @@ use lib.ListN.{length, getD, drop, length-map, List·getD-map, drop-of-length-le
 use lib.Seq.{drop-cons}
 use lib.IntN.{ℤ, pos, natAbs, _+ℤ_}
 use lib.Ieee.{Float, nan, binary32, add}
-use Rattle.grid.specs.Grid.{At, Length, onGrid, sixtyFourths}
+use Rattle.grid.specs.Grid.{At, onGrid, sixtyFourths}
 use Rattle.grid.proofs.Meaning.{at-of-grid}
 use Rattle.grid.proofs.Sums.{add-grid, abs-add}
 use Rattle.refusal.specs.Marks.{sumUpTo}
+use Rattle.refusal.proofs.Sweep.{sum-more}
 use Rattle.breaking.specs.declared.AvailableSpace.{AvailableSpace}
-use Rattle.breaking.specs.Breaking.{Limit, limitOf, fits, taken}
-use Rattle.breaking.specs.Calls.{outerSum, units}
+use Rattle.breaking.specs.Breaking.{limitOf, fits}
+use Rattle.breaking.specs.Calls.{units}
 use Rattle.breaking.specs.Steps.{Breakable, LineEnd}
 use Rattle.breaking.proofs.Taken.{line-one, running, taken-running}
 
--- ---- sums of the first numbers
-
-sum-more : (f : ℕ → ℕ) (n : ℕ) → sumUpTo f (suc n) ≡ sumUpTo f n + f n
-unfolding sumUpTo
-sum-more f n = refl
-
+-- the sum of the first is at most the sum of more
 sum-le : (f : ℕ → ℕ) (i n : ℕ) → i ≤ n → sumUpTo f i ≤ sumUpTo f n
 unfolding sumUpTo
 sum-le f zero zero h = le-refl 0
 sum-le f (suc i) zero h = absurd (omega arith)
 sum-le f i (suc n) h = ⊎-elim (λ e. le-of-eq (ap (sumUpTo f) e)) (λ l. le-trans (sum-le f i n (le-of-suc-le-suc l)) (le-add-right (sumUpTo f n) (f n))) (eq-or-lt-of-le h)
-
--- ---- the loop
 
 -- the magnitude of a float in sixty-fourths
 abbrev magnitude : Float → ℕ
@@ -69,7 +63,7 @@ module _ (sizes : List Float) (gap : Float) (limit : AvailableSpace) (given : Br
   begin start h = record {
     inside = omega arith;
     grid = given .each .each start h .grid;
-    small = subst (λ (n : ℕ). magnitude (getD sizes start nan) ≤ before gap sizes n) (sym (add-one start)) (omega (arith, sum-more (λ k. magnitude (getD sizes k nan) + magnitude gap) start));
+    small = omega (arith, sum-more (λ k. magnitude (getD sizes k nan) + magnitude gap) start);
     answer =
         ap (λ (n : ℕ). n + more (getD sizes start nan) n) (add-one start)
         ∙ flip start (more (getD sizes start nan) (suc start))
@@ -83,21 +77,21 @@ module _ (sizes : List Float) (gap : Float) (limit : AvailableSpace) (given : Br
     abbrev next : Float
     next = add binary32 size (add binary32 (getD sizes i nan) gap)
 
-    next-is : T (onGrid next) × (sixtyFourths next ≡ sixtyFourths size +ℤ (sixtyFourths (getD sizes i nan) +ℤ sixtyFourths gap)) × (magnitude next ≤ before gap sizes (suc i))
+    next-is : T (onGrid next) × (sixtyFourths next ≡ sixtyFourths size +ℤ (sixtyFourths (getD sizes i nan) +ℤ sixtyFourths gap)) × (magnitude next ≤ before gap sizes (i + 1))
     next-is =
         let s = getD sizes i nan in
         let u = sum-more (λ k. magnitude (getD sizes k nan) + magnitude gap) i in
-        let t = sum-le (λ k. magnitude (getD sizes k nan) + magnitude gap) (suc i) (length sizes) h in
+        let t = sum-le (λ k. magnitude (getD sizes k nan) + magnitude gap) (i + 1) (length sizes) (omega arith) in
         let w = given .small in
         let v = inv .small in
         let b₁ = abs-add (sixtyFourths s) (sixtyFourths gap) in
         let p = add-grid binary32 s gap (given .each .each i h .grid) (given .spacing .grid) (le-trans {m = 16777216} (omega arith) (lit≤ tt)) in
         let b₂ = abs-add (sixtyFourths size) (sixtyFourths s +ℤ sixtyFourths gap) in
-        let b₃ : natAbs (sixtyFourths size +ℤ (sixtyFourths s +ℤ sixtyFourths gap)) ≤ before gap sizes (suc i) = omega arith in
+        let b₃ : natAbs (sixtyFourths size +ℤ (sixtyFourths s +ℤ sixtyFourths gap)) ≤ before gap sizes (i + 1) = omega arith in
         let q = add-grid binary32 size (add binary32 s gap) (inv .grid) (p .0)
-        (subst (λ (z : ℤ). natAbs (sixtyFourths size +ℤ z) ≤ 16777216) (sym (p .1)) (le-trans {m = before gap sizes (suc i)} b₃ (omega arith))) in
+        (subst (λ (z : ℤ). natAbs (sixtyFourths size +ℤ z) ≤ 16777216) (sym (p .1)) (le-trans {m = before gap sizes (i + 1)} b₃ (omega arith))) in
         let e : sixtyFourths next ≡ sixtyFourths size +ℤ (sixtyFourths s +ℤ sixtyFourths gap) = q .1 ∙ ap (λ (z : ℤ). sixtyFourths size +ℤ z) (p .1) in
-        (q .0, e, subst (λ (z : ℤ). natAbs z ≤ before gap sizes (suc i)) (sym e) b₃)
+        (q .0, e, subst (λ (z : ℤ). natAbs z ≤ before gap sizes (i + 1)) (sym e) b₃)
 
     pub next-at : At 64 next (sixtyFourths next)
     next-at = at-of-grid next (next-is .0)
@@ -116,7 +110,7 @@ module _ (sizes : List Float) (gap : Float) (limit : AvailableSpace) (given : Br
     turn f = record {
       inside = omega arith;
       grid = next-is .0;
-      small = subst (λ (n : ℕ). magnitude next ≤ before gap sizes n) (sym (add-one i)) (next-is .2);
+      small = next-is .2;
       answer = ap (λ (n : ℕ). n + more next n) (add-one i) ∙ flip i (more next (suc i)) ∙ ap (λ (n : ℕ). i + n) (more-by f) ∙ inv .answer;
     }
 

@@ -1,15 +1,15 @@
 -- Greedy breaking for readers and for the balanced breaker: one line and the rest, what its first line is, sums, and the limits without a number.
 -- By the law of one line (`greedy-more`), which does without the bound on the number of lines. Assumes nothing.
-use mathlib.Core.Path.{_≡_, refl, sym, ap, ap₂, _∙_, subst}
-use mathlib.Core.Bool.{Bool, true, false}
+use mathlib.Core.Path.{_≡_, refl, sym, ap, _∙_, subst}
+use mathlib.Core.Bool.{true, false}
 use mathlib.Core.List.{List, [], _∷_, _++_}
 use Prim.Native.Nat.{ℕ, zero, suc, _+_, _-_, _≤_, _<_, zero-le, suc-le-suc}
 use native.Mathlib.Nat.{le-refl, le-of-suc-le-suc, not-suc-le-zero, zero-lt-suc}
 use native.Mathlib.Omega.{arith}
 use lib.ListN.{length, getD, take, drop, replicate, length-drop, drop-of-length-le}
-use lib.IntN.{ℤ, pos}
+use lib.IntN.{ℤ}
 use Rattle.breaking.specs.Breaking.{Limit, min-content, max-content, fits, lineSize, taken, linesOf, greedy}
-use Rattle.breaking.proofs.Taken.{taken-le, taken-none, taken-fits, taken-full, Takes, takes, takes-one}
+use Rattle.breaking.proofs.Taken.{taken-le, Takes, takes, takes-one}
 
 -- the sum of counts
 unfoldable pub total : List ℕ → ℕ
@@ -79,6 +79,26 @@ module _ (limit : Limit) (gap : ℤ) where
     where
       as-taken : Takes limit gap (x ∷ []) l c
       as-taken = record { inside = le-of-suc-le-suc (f .inside); fit = λ j h. f .fit (suc (suc j)) (suc-le-suc (zero-lt-suc j)) (suc-le-suc h); full = λ h. f .full (suc-le-suc h) }
+
+  -- ---- all lines
+
+  -- counts of which each is a first line of what the ones before it leave, until no item is left
+  abbrev pub AllLines : List ℤ → List ℕ → Type 0
+  AllLines xs [] = xs ≡ []
+  AllLines xs (c ∷ d) = FirstLine xs c × AllLines (drop c xs) d
+
+  -- greedy breaking has such lines, and no other counts have
+  pub greedy-lines : (xs : List ℤ) → AllLines xs (greedy limit gap xs)
+  greedy-lines xs = go (greedy limit gap xs) xs refl
+    where
+      go : (counts : List ℕ) (xs : List ℤ) → greedy limit gap xs ≡ counts → AllLines xs counts
+      go [] [] e = refl
+      go [] (x ∷ l) e = let z : _≡_ {A = ℕ} 0 1 = cc (greedy-more x l) in absurd (omega arith)
+      go (c ∷ d) xs e = let p = first-line xs c d e in (p .0, go d (drop c xs) (sym (p .1)))
+
+  pub lines-greedy : (xs : List ℤ) (counts : List ℕ) → AllLines xs counts → counts ≡ greedy limit gap xs
+  lines-greedy xs [] e = sym (ap (greedy limit gap) e ∙ greedy-none)
+  lines-greedy xs (c ∷ d) (f, r) = ap (λ (t : List ℕ). c ∷ t) (lines-greedy (drop c xs) d r) ∙ sym (first-is xs c f)
 
   -- ---- the counts: positive, no more than items, and together the number of items
 

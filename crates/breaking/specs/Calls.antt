@@ -1,16 +1,14 @@
 -- What the breaking calls take, check and answer (document 01, "Domain and refusal numbers" and "Breaking"). Assumes nothing.
-use mathlib.Core.Path.{_≡_}
 use mathlib.Core.Bool.{Bool}
 use mathlib.Core.List.{List, [], _∷_, _++_, map}
-use Prim.Native.Nat.{ℕ, suc, _+_, _-_, _≤_}
+use Prim.Native.Nat.{ℕ, _+_, _-_}
 use lib.Dec.{leb}
 use lib.ListN.{length, getD, drop, replicate}
 use lib.IntN.{ℤ, natAbs}
 use lib.Ieee.{Float, nan}
 use Rattle.grid.specs.Grid.{sixtyFourths}
-use Rattle.grid.specs.Grid as grid
 use Rattle.refusal.specs.Domain.{Number, float, Input, checked, shape, summed, then}
-use Rattle.refusal.specs.Marks.{sumUpTo, Lengths}
+use Rattle.refusal.specs.Marks.{sumUpTo}
 use Rattle.refusal.specs.declared.Kind.the-variants.{Length, Size}
 use Rattle.refusal.specs.declared.Verdict.{Verdict}
 use Rattle.refusal.specs.declared.Verdict.the-variants.{Passed}
@@ -19,9 +17,8 @@ use Rattle.refusal.specs.declared.Answer.{Answer}
 use Rattle.refusal.specs.declared.Answer.the-variants.{Done}
 use Rattle.refusal.specs.declared.Answer.the-variants as answer
 use Rattle.breaking.specs.declared.AvailableSpace.{AvailableSpace}
-use Rattle.breaking.specs.declared.AvailableSpace.the-variants.{Definite, MinContent, MaxContent}
 use Rattle.breaking.specs.Limit.{spaceNumbers}
-use Rattle.breaking.specs.Breaking.{limitOf, taken, greedy}
+use Rattle.breaking.specs.Breaking.{limitOf, greedy}
 
 -- the numbers that a breaking call takes: codes that came before the limit, the limit, the gap, and the items' outer main sizes
 abbrev pub breakingInput : List Number → AvailableSpace → Float → List Float → Input

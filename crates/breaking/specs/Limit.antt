@@ -1,7 +1,6 @@
 -- Document 01, "Break limit (first leaf)". Floats are only compared and picked here, never rounded. Assumes nothing.
-use mathlib.Core.Bool.{Bool, true, false, cond}
+use mathlib.Core.Bool.{Bool, cond, _||_}
 use mathlib.Core.List.{List, [], _∷_, _++_}
-use Prim.Native.Nat.{ℕ}
 use lib.Ieee.{Float, lt}
 use Rattle.grid.specs.Grid.{cleaned}
 use Rattle.refusal.specs.Domain.{Number, float, Input, checked}
@@ -40,9 +39,13 @@ numberOr MaxContent maximum = maximum
 abbrev pub underMaximum : Query → Float → Float
 underMaximum q maximum = cond (q .«main_is_definite») (numberOr (q .available) maximum) (lowered (numberOr (q .available) maximum) maximum)
 
+-- a row, or a definite main size
+abbrev pub keepsSpace : Query → Bool
+keepsSpace q = q .«is_row» || q .«main_is_definite»
+
 -- "With no maximum, a column without a definite main size turns a definite space into max-content; all else passes unchanged."
 abbrev pub withoutMaximum : Query → AvailableSpace → AvailableSpace
-withoutMaximum q (Definite x) = cond (q .«is_row») (Definite (cleaned x)) (cond (q .«main_is_definite») (Definite (cleaned x)) MaxContent)
+withoutMaximum q (Definite x) = cond (keepsSpace q) (Definite (cleaned x)) MaxContent
 withoutMaximum q MinContent = MinContent
 withoutMaximum q MaxContent = MaxContent
 
@@ -54,7 +57,7 @@ byMaximum q (Given maximum) = Definite (cleaned (raisedTo (q .minimum) (underMax
 abbrev pub breakLimit : Query → AvailableSpace
 breakLimit q = cond (q .«known_is_definite») (byMaximum q (q .maximum)) MaxContent
 
--- ---- the numbers that the call takes, all of them the container's, whatever the answer turns on
+-- ---- the numbers that the call takes, all of them the container's, whatever the answer turns on; codes come before them
 
 abbrev pub spaceNumbers : AvailableSpace → List Number
 spaceNumbers (Definite x) = float Length x ∷ []
@@ -65,8 +68,11 @@ abbrev pub boundNumbers : Bound → List Number
 boundNumbers Absent = []
 boundNumbers (Given x) = float Size x ∷ []
 
-abbrev pub limitInput : Query → Input
-limitInput q = record { container = spaceNumbers (q .available) ++ (boundNumbers (q .minimum) ++ boundNumbers (q .maximum)); count = 0; item = λ i. [] }
+abbrev pub limitInput : List Number → Query → Input
+limitInput codes q = record { container = codes ++ (spaceNumbers (q .available) ++ (boundNumbers (q .minimum) ++ boundNumbers (q .maximum))); count = 0; item = λ i. [] }
+
+abbrev pub limitVerdict : List Number → Query → Verdict
+limitVerdict codes q = checked (limitInput codes q) Passed
 
 abbrev pub limitFrom : Verdict → Query → BreakLimit
 limitFrom Passed q = Limit (breakLimit q)
@@ -74,4 +80,4 @@ limitFrom (verdict.Refused why) q = limit.Refused why
 
 -- the whole call
 abbrev pub limitCall : Query → BreakLimit
-limitCall q = limitFrom (checked (limitInput q) Passed) q
+limitCall q = limitFrom (limitVerdict [] q) q

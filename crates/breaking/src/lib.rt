@@ -1,13 +1,13 @@
 // Breaking items into lines: the break limit, what fits, and greedy breaking (document 01, "Break limit" and "Breaking").
 ghost use mathlib.Core.Path.{_≡_};
-ghost use mathlib.Core.List.{List, []};
+ghost use mathlib.Core.List.{List};
 ghost use Prim.Native.Nat.{_≤_, _<_};
 ghost use lib.ListN.{length};
 ghost use lib.IntN.{ℤ};
-ghost use Rattle.grid.specs.Grid.{At, cleaned, sixtyFourths};
+ghost use Rattle.grid.specs.Grid.{At, sixtyFourths};
 ghost use Rattle.refusal.specs.Domain.{Number};
 ghost use Rattle.refusal.specs.Marks.{leastOf};
-ghost use Rattle.breaking.specs.Limit.{lowered, raised, raisedTo, numberOr, underMaximum, withoutMaximum, byMaximum, breakLimit, spaceNumbers, boundNumbers, limitCall};
+ghost use Rattle.breaking.specs.Limit.{lowered, raised, raisedTo, numberOr, underMaximum, keepsSpace, withoutMaximum, byMaximum, breakLimit, spaceNumbers, boundNumbers, limitVerdict, limitCall};
 ghost use Rattle.breaking.specs.Breaking.{limitOf, fits, greedy};
 ghost use Rattle.breaking.specs.Calls.{breakingVerdict, units, broken, greedyCall};
 ghost use Rattle.breaking.specs.Steps.{LengthLimit, Breakable, LineEnd, Counted, cleared};
@@ -88,18 +88,23 @@ fn under_maximum(q: Query, maximum: f32) -> f32
     }
 }
 
+// A column without a definite main size does not keep a definite space.
+fn keeps_space(q: Query) -> bool
+    ensures { λ r. ⌜ r ≡ keepsSpace q ⌝ }
+{
+    if q.is_row { true } else { q.main_is_definite }
+}
+
 fn without_maximum(q: Query, available: AvailableSpace) -> AvailableSpace
     ensures { λ r. ⌜ r ≡ withoutMaximum q available ⌝ }
 {
     match available {
         AvailableSpace::Definite(x) => {
-            if q.is_row {
-                return AvailableSpace::Definite(grid::clean(x));
+            if keeps_space(q) {
+                AvailableSpace::Definite(grid::clean(x))
+            } else {
+                AvailableSpace::MaxContent
             }
-            if q.main_is_definite {
-                return AvailableSpace::Definite(grid::clean(x));
-            }
-            AvailableSpace::MaxContent
         }
         AvailableSpace::MinContent => AvailableSpace::MinContent,
         AvailableSpace::MaxContent => AvailableSpace::MaxContent,
@@ -114,13 +119,14 @@ fn by_maximum(q: Query, maximum: Bound) -> AvailableSpace
     match maximum {
         Bound::Absent => without_maximum(q, available),
         Bound::Given(high) => {
-            let x = raise_to(minimum, under_maximum(q, high));
-            AvailableSpace::Definite(grid::clean(x))
+            let number = raise_to(minimum, under_maximum(q, high));
+            AvailableSpace::Definite(grid::clean(number))
         }
     }
 }
 
-fn limit_of(q: Query) -> AvailableSpace
+// The break limit of numbers that have passed the checks.
+pub fn limit_of(q: Query) -> AvailableSpace
     ensures { λ r. ⌜ r ≡ breakLimit q ⌝ }
 {
     let maximum = q.maximum;
@@ -150,16 +156,23 @@ fn mark_bound(bound: Bound) -> Mark
     }
 }
 
-// The break limit of any bits: refusals 3, 4 and 5 are the container's.
-pub fn break_limit(q: Query) -> BreakLimit
-    ensures { λ r. ⌜ r ≡ limitCall q ⌝ }
+// Checks 3 to 5 of a break limit. `codes` is the mark of codes that were taken before its numbers.
+pub fn check_limit(codes: Mark, q: Query) -> Verdict
+    ensures { λ r. ⌜ ((cs : List Number) → codes .0 ≡ leastOf cs 0 → r ≡ limitVerdict cs q) ⌝ }
 {
     let available = q.available;
     let minimum = q.minimum;
     let maximum = q.maximum;
     let bounds = refusal::least(mark_bound(minimum), mark_bound(maximum));
-    let m = refusal::least(mark_space(available), bounds);
-    match refusal::judge(m) {
+    let numbers = refusal::least(mark_space(available), bounds);
+    refusal::judge(refusal::least(codes, numbers))
+}
+
+// The break limit of any bits: refusals 3, 4 and 5 are the container's.
+pub fn break_limit(q: Query) -> BreakLimit
+    ensures { λ r. ⌜ r ≡ limitCall q ⌝ }
+{
+    match check_limit(refusal::no_mark(), q) {
         Verdict::Refused(why) => BreakLimit::Refused(why),
         Verdict::Passed => BreakLimit::Limit(limit_of(q)),
     }

@@ -14,18 +14,7 @@ use Rattle.breaking.proofs.Accepted.{then-refused, then-rest, breakingM
 use borrow.Author.Needs.{needs}
 use Rattle.breaking.proofs.check_breaking.Statement.{statement}
 use Rattle.breaking.proofs.check_breaking.Tie as tie
-use Rattle.breaking.proofs.check_breaking.Reads as reads
-use Rattle.breaking.proofs.check_breaking.Lts as lts
-use Rattle.breaking.proofs.mark_space.Reads as mark-space-reads
-use Rattle.refusal.proofs.check_shape.Reads as check-shape-reads
-use Rattle.refusal.proofs.check_sum.Reads as check-sum-reads
-use Rattle.refusal.proofs.judge.Reads as judge-reads
-use Rattle.refusal.proofs.least.Reads as least-reads
-use Rattle.refusal.proofs.mark_float.Reads as mark-float-reads
-use Rattle.refusal.proofs.mark_floats.Reads as mark-floats-reads
-use Rattle.refusal.proofs.sum_floats.Reads as sum-floats-reads
 
--- src/lib.rt:184:9
 check-shape-requires : tie.Need-check-shape-requires
 check-shape-requires c κs = search needs
 
@@ -58,7 +47,6 @@ whole c cs e =
 enum-told : tie.Need-enum-told
 enum-told c = search needs
 
--- src/lib.rt:186:9
 enum-told-2 : tie.Need-enum-told-2
 enum-told-2 c = search needs
 
@@ -69,46 +57,36 @@ returns c cs e =
     sym (then-refused (checked (breakingInput cs (a .limit) (a .gap) (now (a .sizes))) (summed (outerSum (a .gap) (now (a .sizes))))) (c .enum-told2 .given .1))
     ∙ ap (λ (v : Verdict). then v (checked (breakingInput cs (a .limit) (a .gap) (now (a .sizes))) (summed (outerSum (a .gap) (now (a .sizes)))))) (c .before .before .check-shape .ensures)
 
--- src/lib.rt:188:36
 mark-space-requires : tie.Need-mark-space-requires
 mark-space-requires c κs = search needs
 
--- src/lib.rt:188:55
 mark-float-requires : tie.Need-mark-float-requires
 mark-float-requires c κs = search needs
 
--- src/lib.rt:188:9
 least-requires : tie.Need-least-requires
 least-requires c κs = search needs
 
--- src/lib.rt:189:9
 mark-floats-requires : tie.Need-mark-floats-requires
 mark-floats-requires c κs = few (c .before .before .before)
 
--- src/lib.rt:190:49
 least-requires-2 : tie.Need-least-requires-2
 least-requires-2 c κs = search needs
 
--- src/lib.rt:190:34
 least-requires-3 : tie.Need-least-requires-3
 least-requires-3 c κs = search needs
 
--- src/lib.rt:190:9
 judge-requires : tie.Need-judge-requires
 judge-requires c κs = search needs
 
 enum-told-3 : tie.Need-enum-told-3
 enum-told-3 c = search needs
 
--- src/lib.rt:192:9
 enum-told-4 : tie.Need-enum-told-4
 enum-told-4 c = search needs
 
--- src/lib.rt:192:9
 returns-2 : tie.Need-returns-2
 returns-2 c cs e = sym (then-refused _ (c .enum-told4 .given .1)) ∙ whole (c .before .before) cs e
 
--- src/lib.rt:194:24
 sum-floats-requires : tie.Need-sum-floats-requires
 sum-floats-requires c κs =
     let a = c .before .before .before .before .before .before .before .before .before .before .before .before .before .args in
@@ -116,11 +94,9 @@ sum-floats-requires c κs =
     let l = passed-lawful (a .codes .0) (a .limit) (a .gap) (now (a .sizes)) n (sym (marked (c .before .before)) ∙ c .enum-told3 .given .1) in
     (n, l .spacing, l .each)
 
--- src/lib.rt:194:5
 check-sum-requires : tie.Need-check-sum-requires
 check-sum-requires c κs = search needs
 
--- src/lib.rt:181:1
 returns-3 : tie.Need-returns-3
 returns-3 c cs e =
     c .check-sum .ensures ∙ ap summed (c .before .sum-floats .ensures) ∙ sym (then-rest _ (c .before .before .enum-told3 .given .1)) ∙ whole (c .before .before .before .before) cs e

@@ -1,5 +1,5 @@
 -- `greedy` meets its contract: where the checks pass, the counts and then zeros are written (Counts.antt); where they refuse, nothing is. Assumes nothing.
-use mathlib.Core.Path.{_≡_, sym, ap, ap₂, _∙_, subst}
+use mathlib.Core.Path.{_≡_, sym, ap, ap₂, _∙_}
 use mathlib.Core.List.{List, []}
 use Prim.Native.Nat.{ℕ, _≤_}
 use lib.Dec.{leb}
@@ -23,22 +23,13 @@ use Rattle.breaking.proofs.Counts.{counted-long, all-written}
 use borrow.Author.Needs.{needs}
 use Rattle.breaking.proofs.greedy.Statement.{statement}
 use Rattle.breaking.proofs.greedy.Tie as tie
-use Rattle.breaking.proofs.greedy.Reads as reads
-use Rattle.breaking.proofs.greedy.Lts as lts
-use Rattle.breaking.proofs.check_breaking.Reads as check-breaking-reads
-use Rattle.breaking.proofs.clear_counts.Reads as clear-counts-reads
-use Rattle.breaking.proofs.greedy_counts.Reads as greedy-counts-reads
-use Rattle.refusal.proofs.no_mark.Reads as no-mark-reads
 
--- src/lib.rt:248:28
 no-mark-requires : tie.Need-no-mark-requires
 no-mark-requires c κs = search needs
 
--- src/lib.rt:248:9
 check-breaking-requires : tie.Need-check-breaking-requires
 check-breaking-requires c κs = search needs
 
--- src/lib.rt:250:26
 -- the counts of the lines
 abbrev lines : AvailableSpace → Float → List Float → List ℕ
 lines limit gap sizes = breaking.greedy (limitOf limit) (sixtyFourths gap) (units sizes)
@@ -60,11 +51,9 @@ given c =
 enum-known-v : tie.Need-enum-known-v
 enum-known-v c = search needs
 
--- src/lib.rt:252:54
 enum-told : tie.Need-enum-told
 enum-told c = search needs
 
--- src/lib.rt:252:17
 greedy-counts-requires : tie.Need-greedy-counts-requires
 greedy-counts-requires c κs = given (c .before)
 
@@ -75,33 +64,29 @@ few c =
     let f = greedy-few (limitOf (a .limit)) (sixtyFourths (a .gap)) (units (now (a .sizes))) in
     omega (arith, c .greedy-counts .ensures .number, length-map (now (a .sizes)) sixtyFourths)
 
--- src/lib.rt:253:13
 clear-counts-requires : tie.Need-clear-counts-requires
 clear-counts-requires c κs =
     let g = c .before .before .before in
     let f = few g in
     let r = given (g .before .before) .1 in
-    (f, subst (λ (n : ℕ). length (now (g .before .before .before .before .before .before .before .before .args .sizes)) ≤ n) (sym (counted-long (g .greedy-counts .ensures) (omega arith))) r)
+    let l = counted-long (g .greedy-counts .ensures) (omega arith) in
+    (omega arith, omega arith)
 
--- src/lib.rt:255:24
 cast-t19 : tie.Need-cast-t19
 cast-t19 c =
     let g = c .before .before .before .before .before .before in
     let b = given (g .before .before) .0 .few in
     omega (arith, few g)
 
--- src/lib.rt:245:1
 returns : tie.Need-returns
 returns c =
     let a = c .before .before .before .before .before .before .before .args in
     let n = now (a .counts) in
     sym (ap (λ (v : Verdict). brokenInto v (lines (a .limit) (a .gap) (now (a .sizes))) (length (now (a .sizes))) n) (sym (verdict (c .before .before .before)) ∙ c .before .v .given .1))
 
--- src/lib.rt:245:1
 same-length : tie.Need-same-length
 same-length c = search needs
 
--- src/lib.rt:245:1
 returns-2 : tie.Need-returns-2
 returns-2 c =
     let g = c .before .before .before .before .before .before in

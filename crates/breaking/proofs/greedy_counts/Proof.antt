@@ -6,16 +6,12 @@ use native.Mathlib.Omega.{arith}
 use lib.ListN.{length, length-map}
 use lib.Ieee.{Float}
 use denote.Ref.{now}
-use borrow.Author.Needs.{needs, scaled-fits}
 use Rattle.grid.specs.Grid.{sixtyFourths}
 use Rattle.breaking.specs.Breaking.{limitOf}
 use Rattle.breaking.specs.Calls.{units}
 use Rattle.breaking.proofs.Counts.{Inv, begin, turn, end-inside, finish}
 use Rattle.breaking.proofs.greedy_counts.Statement.{statement}
 use Rattle.breaking.proofs.greedy_counts.Tie as tie
-use Rattle.breaking.proofs.greedy_counts.Reads as reads
-use Rattle.breaking.proofs.greedy_counts.Lts as lts
-use Rattle.breaking.proofs.line_end.Reads as line-end-reads
 
 abbrev Inv-loop : tie.InvT-loop
 Inv-loop sizes gap limit counts₀ start₀ n₀ counts start n = Inv (limitOf limit) (sixtyFourths gap) (units sizes) counts₀ counts start n

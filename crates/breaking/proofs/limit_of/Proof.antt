@@ -6,19 +6,13 @@ use Rattle.breaking.specs.Limit.{byMaximum}
 use borrow.Author.Needs.{needs}
 use Rattle.breaking.proofs.limit_of.Statement.{statement}
 use Rattle.breaking.proofs.limit_of.Tie as tie
-use Rattle.breaking.proofs.limit_of.Reads as reads
-use Rattle.breaking.proofs.limit_of.Lts as lts
-use Rattle.breaking.proofs.by_maximum.Reads as by-maximum-reads
 
--- src/lib.rt:128:9
 by-maximum-requires : tie.Need-by-maximum-requires
 by-maximum-requires c κs = search needs
 
--- src/lib.rt:123:1
 returns : tie.Need-returns
 returns c = let q = c .before .before .args .q in c .by-maximum .ensures ∙ sym (ap (λ (b : Bool). cond b (byMaximum q (q .maximum)) MaxContent) (c .before .if1 .taken))
 
--- src/lib.rt:123:1
 returns-2 : tie.Need-returns-2
 returns-2 c = search needs
 

@@ -1,10 +1,10 @@
 -- `line_end` meets its contract: the answer still to come stays the same, turn by turn (Line.antt). Assumes nothing.
-use mathlib.Core.Path.{_≡_, sym, _∙_}
+use mathlib.Core.Path.{sym, _∙_}
 use Prim.Native.Nat.{_-_}
 use native.Mathlib.Omega.{arith}
 use lib.ListN.{length}
 use denote.Ref.{now}
-use borrow.Author.Needs.{needs, scaled-fits}
+use borrow.Author.Needs.{scaled-fits}
 use Rattle.breaking.proofs.line_end.Statement.{statement}
 use Rattle.breaking.proofs.line_end.Tie as tie
 use Rattle.breaking.proofs.Line.{Inv, begin, next-at, turn, full, done}

@@ -1,6 +1,6 @@
 -- `line_fits` meets its contract: on the grid the floats compare as the sixty-fourths do. Assumes nothing.
 use borrow.Author.Needs.{needs}
-use mathlib.Core.Path.{_≡_, sym, ap, _∙_, subst}
+use mathlib.Core.Path.{sym, ap, _∙_, subst}
 use native.Mathlib.Nat.{zero-lt-suc}
 use Rattle.grid.specs.Grid.{Length}
 use Rattle.grid.proofs.Exact.{le-at}

@@ -1,13 +1,10 @@
+-- `lower` meets its contract. Assumes nothing.
 use Rattle.breaking.proofs.lower.Statement.{statement}
 use Rattle.breaking.proofs.lower.Tie as tie
-use Rattle.breaking.proofs.lower.Reads as reads
-use Rattle.breaking.proofs.lower.Lts as lts
 
--- src/lib.rt:44:1
 returns : tie.Need-returns
 returns c = rw (c .if1 .taken)
 
--- src/lib.rt:44:1
 returns-2 : tie.Need-returns-2
 returns-2 c = rw (c .if1 .left)
 

@@ -5,27 +5,19 @@ use Rattle.breaking.specs.Limit.{raisedTo}
 use borrow.Author.Needs.{needs}
 use Rattle.breaking.proofs.raise_to.Statement.{statement}
 use Rattle.breaking.proofs.raise_to.Tie as tie
-use Rattle.breaking.proofs.raise_to.Reads as reads
-use Rattle.breaking.proofs.raise_to.Lts as lts
-use Rattle.breaking.proofs.raise.Reads as raise-reads
 
--- src/lib.rt:60:26
 enum-told : tie.Need-enum-told
 enum-told c = search needs
 
--- src/lib.rt:61:22
 enum-known-minimum : tie.Need-enum-known-minimum
 enum-known-minimum c = search needs
 
--- src/lib.rt:61:30
 raise-requires : tie.Need-raise-requires
 raise-requires c κs = search needs
 
--- src/lib.rt:56:1
 returns : tie.Need-returns
 returns c = search needs
 
--- src/lib.rt:56:1
 returns-2 : tie.Need-returns-2
 returns-2 c = c .raise .ensures ∙ sym (ap (λ (b : Bound). raisedTo b (c .before .before .before .before .args .x)) (c .before .before .minimum .given .1))
 
