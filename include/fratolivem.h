@@ -11,8 +11,6 @@
  *
  * On acceptance the first n cells of `counts` hold the lines' item counts, and 0 past the last line; cells past these n are unchanged.
  * A refusal changes no lent cell.
- *
- * Link with -lm: the grid test takes a remainder of floats from the C library.
  */
 #ifndef FRATOLIVEM_H
 #define FRATOLIVEM_H
