@@ -13,6 +13,7 @@ use lib.Seq.{length-take-le}
 use lib.IntN.{ℤ}
 use lib.Ieee.{Float, binary64, ofBits}
 use Rattle.grid.specs.Grid.{sixtyFourths}
+use Rattle.refusal.specs.Domain.{Number}
 use Rattle.refusal.specs.declared.Refusal.{Refusal}
 use Rattle.refusal.specs.declared.Refusal.the-variants.{TooManyItems}
 use Rattle.refusal.specs.declared.Verdict.{Verdict}
@@ -118,15 +119,15 @@ lines-few limit gap minimum sizes b a lines D =
     )
 
 -- ---- the verdict: whether more than 1,024 items have room does not matter
-pub verdict-is : (limit : AvailableSpace) (gap : Float) (sizes : List Float) (b : Lent) (room : Bool) (least : ℕ)
+pub verdict-is : (codes : List Number) (limit : AvailableSpace) (gap : Float) (sizes : List Float) (b : Lent) (room : Bool) (least : ℕ)
     → least ≡ shortestOf (length (b .counts)) (length (b .fit)) (length (b .greedy)) (length (b .reach)) (length (b .sums)) (length (b .prev)) (length (b .cur))
     → (length sizes ≤ 1024 → room ≡ (leb (length sizes) least && leb (length sizes * length sizes) (length (b .opts))))
-    → breakingVerdict [] limit gap sizes room ≡ balancedVerdict limit gap sizes b
+    → breakingVerdict codes limit gap sizes room ≡ breakingVerdict codes limit gap sizes (hasRoom (length sizes) b)
 unfolding breakingVerdict
-verdict-is limit gap sizes b room least e h = go (lt-or-ge 1024 (length sizes))
+verdict-is codes limit gap sizes b room least e h = go (lt-or-ge 1024 (length sizes))
   where
-    go : (1024 < length sizes) ⊎ (length sizes ≤ 1024) → breakingVerdict [] limit gap sizes room ≡ balancedVerdict limit gap sizes b
-    go (inr p) = ap (breakingVerdict [] limit gap sizes) (h p ∙ ap (λ (k : ℕ). leb (length sizes) k && leb (length sizes * length sizes) (length (b .opts))) e)
+    go : (1024 < length sizes) ⊎ (length sizes ≤ 1024) → breakingVerdict codes limit gap sizes room ≡ breakingVerdict codes limit gap sizes (hasRoom (length sizes) b)
+    go (inr p) = ap (breakingVerdict codes limit gap sizes) (h p ∙ ap (λ (k : ℕ). leb (length sizes) k && leb (length sizes * length sizes) (length (b .opts))) e)
     go (inl p) = simp (lt-ltb 1024 (length sizes) p)
 
 pub given : (limit : AvailableSpace) (gap : Float) (sizes : List Float) (b : Lent) → balancedVerdict limit gap sizes b ≡ Passed → Breakable limit gap sizes × T (hasRoom (length sizes) b)

@@ -220,7 +220,8 @@ fn divide_within(
     )
 }
 
-fn shortest(
+// The shortest of the lists of which n cells are asked. This and `has_room` also serve callers that check codes of their own.
+pub fn shortest(
     counts: usize,
     fit: usize,
     greedy: usize,
@@ -239,7 +240,7 @@ fn shortest(
 }
 
 // Whether n items have room. A list of more than 1,024 items is refused whatever the room, so their square is never taken.
-fn has_room(n: usize, shortest: usize, opts: usize) -> bool
+pub fn has_room(n: usize, shortest: usize, opts: usize) -> bool
     ensures { λ r. ⌜ (n ≤ 1024 → r ≡ (leb n shortest && leb (n * n) opts)) ⌝ }
 {
     if 1024 < n {

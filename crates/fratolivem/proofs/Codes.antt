@@ -1,6 +1,6 @@
 -- The kind of a limit is a code of the container: where it names no kind the checks refuse, whatever else is handed over, and where it names
 -- one it changes nothing of what the checks say. Assumes nothing.
-use mathlib.Core.Path.{_≡_, refl, sym, ap, _∙_}
+use mathlib.Core.Path.{_≡_, refl, sym, ap, _∙_, subst}
 use mathlib.Core.Bool.{Bool}
 use mathlib.Core.List.{List, []}
 use Prim.Native.Nat.{ℕ, _≤_, _<_}
@@ -16,7 +16,10 @@ use Rattle.breaking.specs.declared.AvailableSpace.{AvailableSpace}
 use Rattle.breaking.specs.Breaking.{limitOf, greedy}
 use Rattle.breaking.specs.Calls.{breakingVerdict, units, Broken, brokenInto, greedyCall}
 use Rattle.breaking.proofs.Accepted.{code-passes, code-fails}
-use Rattle.fratolivem.specs.Boundary.{spaceOf, kindNumber, greedyFromC}
+use Rattle.refusal.specs.declared.Answer.{Answer}
+use Rattle.balance.specs.Calls.{Lent, hasRoom, BalancedCall}
+use Rattle.fratolivem.specs.declared.CAnswer.{CAnswer}
+use Rattle.fratolivem.specs.Boundary.{cAnswer, spaceOf, kindNumber, greedyFromC, balancedFromC, BalancedFromC}
 
 -- a verdict that refused, as the answer of a call: no lines were made, so it does not matter which would have been
 as-refused : (v : Verdict) (lines : List ℕ) (n : ℕ) (before : List ℕ) → ¬ (v ≡ Passed) → (asAnswer v 0 0 ≡ brokenInto v lines n before .answer) × (before ≡ brokenInto v lines n before .counts)
@@ -40,3 +43,19 @@ module _ (kind : ℕ) (limit gap : Float) (sizes : List Float) (before : List �
 
   pub named : kind ≤ 2 → greedyCall (spaceOf kind limit) gap sizes before ≡ greedyFromC kind limit gap sizes before
   named h = ap (λ (w : Verdict). brokenInto w (greedy (limitOf (spaceOf kind limit)) (sixtyFourths gap) (units sizes)) (length sizes) before) (sym (as-without kind (spaceOf kind limit) gap sizes (leb (length sizes) (length before)) h))
+
+module _ (kind : ℕ) (limit gap : Float) (minimum : ℕ) (sizes : List Float) (before : Lent) where
+  pub balanced-unnamed : 2 < kind → (v : Verdict) → v ≡ balancedFromC kind limit gap sizes before → (r : CAnswer) → r ≡ cAnswer (asAnswer v 0 0) → BalancedFromC kind limit gap minimum sizes before r before
+  balanced-unnamed h v e r f = record {
+    refused = λ why g. (f ∙ ap (λ (w : Verdict). cAnswer (asAnswer w 0 0)) (e ∙ g), refl);
+    accepted = λ g. absurd (never-passes kind (spaceOf kind limit) gap sizes (hasRoom (length sizes) before) h g);
+  }
+
+  pub balanced-named : kind ≤ 2 → {space : AvailableSpace} {a : Answer} {after : Lent} → space ≡ spaceOf kind limit → BalancedCall space gap minimum sizes before a after → (r : CAnswer) → r ≡ cAnswer a → BalancedFromC kind limit gap minimum sizes before r after
+  balanced-named h {space} {a} {after} e inside r f =
+      let call : BalancedCall (spaceOf kind limit) gap minimum sizes before a after = subst (λ (s : AvailableSpace). BalancedCall s gap minimum sizes before a after) e inside in
+      let same = sym (as-without kind (spaceOf kind limit) gap sizes (hasRoom (length sizes) before) h) in
+      record {
+        refused = λ why g. let p = call .refused why (same ∙ g) in (f ∙ ap cAnswer (p .0), p .1);
+        accepted = λ g. let p = call .accepted (same ∙ g) in (p .0, f ∙ ap cAnswer (p .1), p .2);
+      }

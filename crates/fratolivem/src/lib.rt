@@ -248,7 +248,15 @@ pub extern "C" fn fratolivem_balanced_parts(
 {
     let space = space_of(limit_kind, limit);
     if 2 < limit_kind {
-        let shortest = balance::shortest(counts.len(), fit.len(), greedy.len(), reach.len(), sums.len(), prev.len(), cur.len());
+        let shortest = balance::shortest(
+            counts.len(),
+            fit.len(),
+            greedy.len(),
+            reach.len(),
+            sums.len(),
+            prev.len(),
+            cur.len(),
+        );
         let room = balance::has_room(sizes.len(), shortest, opts.len());
         let kind = refusal::mark_code(2, limit_kind, 0);
         let v = breaking::check_breaking(kind, space, gap, sizes, room);

@@ -24,7 +24,7 @@ verdict c =
     let st = c .before .before .before .before .before .before .before .before .before .before .before .before .before in
     let a = st .args in
     c .check-breaking .ensures [] (c .before .no-mark .ensures)
-    ∙ verdict-is (a .limit) (a .gap) (a .sizes .now) (before st) (c .before .before .has-room .result) (c .before .before .before .shortest .result) (c .before .before .before .shortest .ensures) (c .before .before .has-room .ensures)
+    ∙ verdict-is [] (a .limit) (a .gap) (a .sizes .now) (before st) (c .before .before .has-room .result) (c .before .before .before .shortest .result) (c .before .before .before .shortest .ensures) (c .before .before .has-room .ensures)
 
 shortest-requires : tie.Need-shortest-requires
 shortest-requires c κs = search needs
