@@ -40,19 +40,19 @@ left-half : (t : ℕ) (c : fill-row-lts.Joined2 (
 ) (fill-row-at t) fill-row.Post)
     → (length (c .if2 .cur) ≡ length (c .before .before .before .before .before .before .before .before .before .before .args .cur .now))
     × (length (c .if2 .opts) ≡ length (c .before .before .before .before .before .before .before .before .before .before .args .opts .now))
-    × RowOut (c .before .before .before .before .before .before .before .before .before .before .args .sums .now) (c .before .before .before .before .before .before .before .before .before .before .args .gap .0) (c .before .before .before .before .before .before .before .before .before .before .args .fit .now) (c .before .before .before .before .before .before .before .before .before .before .args .prev .now) (c .before .before .before .before .before .before .before .before .before .before .args .max-end) (c .before .before .before .before .before .before .before .before .before .before .args .start-lo) (c .before .before .before .before .before .before .before .before .before .before .args .start-lo + (c .before .before .before .before .before .before .before .before .before .before .args .start-hi - c .before .before .before .before .before .before .before .before .before .before .args .start-lo) / 2) (c .before .before .before .before .before .before .before .before .before .before .args .end-lo) (c .before .before .pick .result .hi)
-    (set (c .before .before .before .before .before .before .before .before .before .before .args .cur .now) (c .before .before .before .before .before .before .before .before .before .before .args .start-lo + (c .before .before .before .before .before .before .before .before .before .before .args .start-hi - c .before .before .before .before .before .before .before .before .before .before .args .start-lo) / 2) (c .before .cost .result .0)) (c .if2 .cur)
-    (set (c .before .before .before .before .before .before .before .before .before .before .args .opts .now) (c .before .before .before .before .before .before .before .before .before .before .args .start-lo + (c .before .before .before .before .before .before .before .before .before .before .args .start-hi - c .before .before .before .before .before .before .before .before .before .before .args .start-lo) / 2) (c .before .before .pick .result .end)) (c .if2 .opts)
+    × RowOut (c .before .before .before .before .before .before .before .before .before .before .args .sums .now) (c .before .before .before .before .before .before .before .before .before .before .args .gap .0) (c .before .before .before .before .before .before .before .before .before .before .args .fit .now) (c .before .before .before .before .before .before .before .before .before .before .args .prev .now) (c .before .before .before .before .before .before .before .before .before .before .args .last) (c .before .before .before .before .before .before .before .before .before .before .args .lo) (c .before .before .before .before .before .before .before .before .before .before .args .lo + (c .before .before .before .before .before .before .before .before .before .before .args .hi - c .before .before .before .before .before .before .before .before .before .before .args .lo) / 2) (c .before .before .before .before .before .before .before .before .before .before .args .from) (c .before .before .pick .result .hi)
+    (set (c .before .before .before .before .before .before .before .before .before .before .args .cur .now) (c .before .before .before .before .before .before .before .before .before .before .args .lo + (c .before .before .before .before .before .before .before .before .before .before .args .hi - c .before .before .before .before .before .before .before .before .before .before .args .lo) / 2) (c .before .cost .result .0)) (c .if2 .cur)
+    (set (c .before .before .before .before .before .before .before .before .before .before .args .opts .now) (c .before .before .before .before .before .before .before .before .before .before .args .lo + (c .before .before .before .before .before .before .before .before .before .before .args .hi - c .before .before .before .before .before .before .before .before .before .before .args .lo) / 2) (c .before .before .pick .result .end)) (c .if2 .opts)
 left-half t c =
     let a = c .before .before .before .before .before .before .before .before .before .before .args in
-    let s : ℕ = a .start-lo + (a .start-hi - a .start-lo) / 2 in
+    let s : ℕ = a .lo + (a .hi - a .lo) / 2 in
     ⊎-elim
     (λ w. (ap length (w .8) ∙ w .3 .kept .1 .1 .1 .1 .0 ∙ simp length-set, ap length (w .9) ∙ w .3 .kept .1 .1 .1 .1 .1 .0 ∙ simp length-set, rw (w .8, w .9) (w .3 .ensures)))
     (λ w. (
       ap length (w .1) ∙ simp length-set,
       ap length (w .2) ∙ simp length-set,
       rw (w .1, w .2)
-          (row-empty (a .sums .now) (a .gap .0) (a .fit .now) (a .prev .now) (a .max-end) (a .start-lo) s (a .end-lo) (c .before .before .pick .result .hi) (set (a .cur .now) s (c .before .cost .result .0)) (set (a .opts .now) s (c .before .before .pick .result .end)) (w .0 .left)),
+          (row-empty (a .sums .now) (a .gap .0) (a .fit .now) (a .prev .now) (a .last) (a .lo) s (a .from) (c .before .before .pick .result .hi) (set (a .cur .now) s (c .before .cost .result .0)) (set (a .opts .now) s (c .before .before .pick .result .end)) (w .0 .left)),
     ))
     (c .if2 .came)
 
@@ -78,7 +78,7 @@ fill-row-add-start : (t : ℕ) → fill-row-lts.Need-add-start (
   fill-row-below t,
   fill-row.Post,
 ) (fill-row-at t) fill-row.Post
-fill-row-add-start t c = omega (arith, c .if1 .taken, c .before .before .before .before .before .before .fits .start-hi)
+fill-row-add-start t c = omega (arith, c .if1 .taken, c .before .before .before .before .before .before .fits .hi)
 
 fill-row-base-requires : (t : ℕ) → fill-row-lts.Need-base-requires (
   base-reads.Asked,
@@ -207,7 +207,7 @@ fill-row-fill-row-requires t c κs =
     let k = c .before .before .before .before .pick in (
       omega (arith, st .pre .0, c .before .before .before .before .before .before .if1 .taken),
       (
-        safe-part (a .sums .now) (a .fit .now) (a .prev .now) (a .max-end) (a .end-hi) (k .result .hi) (k .ensures .hi-hi) (st .pre .1 .0),
+        safe-part (a .sums .now) (a .fit .now) (a .prev .now) (a .last) (a .to) (k .result .hi) (k .ensures .hi-hi) (st .pre .1 .0),
         omega (arith, c .before .before .before .before .before .before .if1 .taken, st .pre .1 .1),
         simp length-set (st .pre .1 .2),
         simp length-set (st .pre .1 .3),
@@ -224,7 +224,7 @@ fill-row-add-next : (t : ℕ) → fill-row-lts.Need-add-next (
   fill-row-below t,
   fill-row.Post,
 ) (fill-row-at t) fill-row.Post
-fill-row-add-next t c = omega (arith, c .before .before .before .before .if1 .taken, c .before .before .before .before .before .before .before .before .before .before .fits .start-hi)
+fill-row-add-next t c = omega (arith, c .before .before .before .before .if1 .taken, c .before .before .before .before .before .before .before .before .before .before .fits .hi)
 
 fill-row-fill-row-requires-2 : (t : ℕ) → fill-row-lts.Need-fill-row-requires-2 (
   base-reads.Asked,
@@ -284,9 +284,9 @@ fill-row-returns t c =
     let j = c .before .before .before .before .before .before .before .before .if2 in
     let two = c .before .before .before .before .fill-row2 in
     let k = c .before .before .before .before .before .before .before .before .before .before .pick in
-    let s : ℕ = a .start-lo + (a .start-hi - a .start-lo) / 2 in
+    let s : ℕ = a .lo + (a .hi - a .lo) / 2 in
     let g = c .before .before .before .before .before .before .before .before .before .before .before .before .if1 .taken in
-    row-step (a .sums .now) (a .gap .0) (a .fit .now) (a .prev .now) (a .max-end) (a .start-lo) (a .start-hi) (a .end-lo) (a .end-hi)
+    row-step (a .sums .now) (a .gap .0) (a .fit .now) (a .prev .now) (a .last) (a .lo) (a .hi) (a .from) (a .to)
     (a .cur .now) (j .cur) (two .last .1 .1 .1 .1 .0) (a .opts .now) (j .opts) (two .last .1 .1 .1 .1 .1 .0)
     s (k .result .end) (k .result .lo) (k .result .hi) (c .before .before .before .before .before .before .before .before .before .cost .result .0)
     (omega arith) (omega (arith, g)) (omega (arith, g, p .1, p .2, p .0 .room)) (omega (arith, g, p .1, p .3, p .0 .room))
@@ -332,14 +332,14 @@ fill-row-returns-2 t c =
     let p = st .pre .1 in
     let j = c .before .if2 in
     let k = c .before .before .before .pick in
-    let s : ℕ = a .start-lo + (a .start-hi - a .start-lo) / 2 in
+    let s : ℕ = a .lo + (a .hi - a .lo) / 2 in
     let g = c .before .before .before .before .before .if1 .taken in
-    row-step (a .sums .now) (a .gap .0) (a .fit .now) (a .prev .now) (a .max-end) (a .start-lo) (a .start-hi) (a .end-lo) (a .end-hi)
+    row-step (a .sums .now) (a .gap .0) (a .fit .now) (a .prev .now) (a .last) (a .lo) (a .hi) (a .from) (a .to)
     (a .cur .now) (j .cur) (j .cur) (a .opts .now) (j .opts) (j .opts)
     s (k .result .end) (k .result .lo) (k .result .hi) (c .before .before .cost .result .0)
     (omega arith) (omega (arith, g)) (omega (arith, g, p .1, p .2, p .0 .room)) (omega (arith, g, p .1, p .3, p .0 .room))
     (k .ensures) (rw (c .before .before .before .before .base .ensures) at (c .before .before .cost .ensures)) (left-half t (c .before) .2)
-    (row-empty (a .sums .now) (a .gap .0) (a .fit .now) (a .prev .now) (a .max-end) (s + 1) (a .start-hi) (k .result .lo) (a .end-hi) (j .cur) (j .opts) (c .if3 .left))
+    (row-empty (a .sums .now) (a .gap .0) (a .fit .now) (a .prev .now) (a .last) (s + 1) (a .hi) (k .result .lo) (a .to) (j .cur) (j .opts) (c .if3 .left))
 
 fill-row-returns-3 : (t : ℕ) → fill-row-lts.Need-returns-3 (
   base-reads.Asked,
@@ -353,7 +353,7 @@ fill-row-returns-3 : (t : ℕ) → fill-row-lts.Need-returns-3 (
 ) (fill-row-at t) fill-row.Post
 fill-row-returns-3 t c =
     let a = c .before .before .before .before .before .before .args in
-    row-empty (a .sums .now) (a .gap .0) (a .fit .now) (a .prev .now) (a .max-end) (a .start-lo) (a .start-hi) (a .end-lo) (a .end-hi) (a .cur .now) (a .opts .now) (c .if1 .left)
+    row-empty (a .sums .now) (a .gap .0) (a .fit .now) (a .prev .now) (a .last) (a .lo) (a .hi) (a .from) (a .to) (a .cur .now) (a .opts .now) (c .if1 .left)
 
 pub +fill-row-spec : {M : Type 1} → statement M
 +fill-row-spec = close μ-fill-row λ t. fill-row-lts.spec (

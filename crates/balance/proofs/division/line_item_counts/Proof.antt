@@ -1,11 +1,11 @@
--- `balance::line_item_counts` meets its contract. Assumes nothing.
+-- `balance::division::line_item_counts` meets its contract. Assumes nothing.
 use mathlib.Core.Path.{_≡_, refl, _∙_}
 use native.Mathlib.Omega.{arith}
 use lib.ListN.{length}
 use borrow.Author.Needs.{needs}
 use Rattle.balance.proofs.Finish.{fit-range, fit-rising, Made, K-hi, K-lo, rows-room, row-base, readable, finish}
-use Rattle.balance.proofs.line_item_counts.Statement.{statement}
-use Rattle.balance.proofs.line_item_counts.Tie as tie
+use Rattle.balance.proofs.division.line_item_counts.Statement.{statement}
+use Rattle.balance.proofs.division.line_item_counts.Tie as tie
 
 -- the tables, where the rows are called
 made : (c : tie.After-rows-arg6) → Made (c .before .before .before .before .before .before .before .before .before .before .before .before .before .before .before .before .before .before .before .before .before .before .before .before .before .before .before .before .before .before .before .before .before .before .before .before .before .args .sums .now) (c .before .before .before .before .before .before .before .before .before .before .before .before .before .before .before .before .before .before .before .before .before .before .before .before .before .before .before .before .before .before .before .before .before .before .before .before .before .args .gap .0) (c .before .before .before .before .before .before .before .before .before .before .before .before .before .before .before .before .before .before .before .before .before .before .before .before .before .before .before .before .before .before .before .before .before .before .before .before .before .args .limit .bounded) (c .before .before .before .before .before .before .before .before .before .before .before .before .before .before .before .before .before .before .before .before .before .before .before .before .before .before .before .before .before .before .before .before .before .before .before .before .before .args .limit .most .0) (c .before .before .before .before .before .before .before .before .before .before .before .before .before .before .before .before .before .before .before .before .before .before .before .before .before .before .before .before .before .before .before .before .before .before .before .before .before .args .minimum) (c .before .before .before .before .before .before .before .before .first-row .last .1 .1 .0) (c .before .before .before .before .before .before .before .before .before .before .before .before .before .before .before .before .before .before .before .before .before .before .before .before .before .before .before .fit-ends .last .1 .1 .1 .0) (c .before .before .before .before .before .before .before .before .before .before .before .before .before .before .before .before .before .before .before .before .before .before .suffix-greedy .last .1 .0) (c .before .before .before .before .before .before .before .before .before .before .before .before .forward .last .1 .0) (c .before .before .before .before .before .before .before .before .before .before .before .before .before .before .before .larger2 .result)
