@@ -1,4 +1,4 @@
--- `balance::division::counts_of_sizes` meets its contract. Assumes nothing.
+-- `balance::division::counts_of_sizes` meets its contract: the sums are those of the sizes (RunLaws.antt). Assumes nothing.
 use mathlib.Core.Path.{_≡_, sym, _∙_}
 use native.Mathlib.Omega.{arith}
 use lib.ListN.{length}

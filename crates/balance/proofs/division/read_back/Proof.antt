@@ -1,4 +1,4 @@
--- `balance::division::read_back` meets its contract. Assumes nothing.
+-- `balance::division::read_back` meets its contract: what is read so far, with the choice for the rest, is the choice for all (ReadingLaws.antt). Assumes nothing.
 use mathlib.Core.Path.{_≡_, refl}
 use Prim.Native.Nat.{_+_, _-_, _*_}
 use native.Mathlib.Omega.{arith}

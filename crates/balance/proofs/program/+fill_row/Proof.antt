@@ -1,4 +1,4 @@
--- `balance::program::fill_row` meets its contract. Assumes nothing.
+-- `balance::program::fill_row` meets its contract: by the length of the range of starts, which falls at each call: the middle start by its choice, the halves by the calls (`row-step` of Steps.antt). Assumes nothing.
 use mathlib.Core.Path.{_≡_, ap, _∙_}
 use mathlib.Core.Logic.{⊎-elim}
 use Prim.Native.Nat.{ℕ, _+_, _-_, _/_, _<_}
