@@ -15,7 +15,7 @@ use Rattle.grid.proofs.Meaning.{at-of-grid}
 use Rattle.refusal.specs.Marks.{sumUpTo}
 use Rattle.breaking.specs.declared.AvailableSpace.{AvailableSpace}
 use Rattle.breaking.specs.declared.AvailableSpace.the-variants.{Definite, MinContent, MaxContent}
-use Rattle.breaking.specs.Breaking.{limitOf}
+use Rattle.breaking.specs.Breaking.{definite, limitOf}
 use Rattle.breaking.specs.Calls.{units, outerSum}
 use Rattle.breaking.specs.Steps.{Breakable, LengthLimit}
 use Rattle.balance.specs.Sizes.{pre}
@@ -24,7 +24,7 @@ use Rattle.balance.specs.Tables.{LimitIs}
 use Rattle.balance.specs.Run.{natural, RunIn, RunOut, Divided}
 use Rattle.balance.proofs.SizesLaws.{pre-step}
 use Rattle.balance.proofs.PixelsLaws.{limit-pixels}
-use Rattle.balance.proofs.TablesLaws.{limit-max, limit-below}
+use Rattle.balance.proofs.TablesLaws.{limit-max, limit-definite}
 use Rattle.balance.proofs.Bridge.{size, balanced-is, none-balanced}
 
 -- ---- one length
@@ -37,11 +37,6 @@ not-nan x l = go x (at-of-grid x (l .grid) .value)
     go (inf s) v = tt
     go (fin s m e) v = tt
 
-abs-signed : (s : Bool) (m : ℕ) → natAbs (signed s m) ≡ m
-abs-signed false m = refl
-abs-signed true zero = refl
-abs-signed true (suc m) = refl
-
 size-signed : (s : Bool) (m : ℕ) (v : Float) → HasValue v s m 64 → SizeIs v (size (signed s m))
 size-signed false m v h = record { is = inl h }
 size-signed true zero v h = record { is = inr (0, h, refl) }
@@ -52,11 +47,8 @@ size-is x l =
     let a = at-of-grid x (l .grid) in
     subst (λ (z : ℤ). SizeIs x (size z)) (a .total) (size-signed (a .sign) (a .size) x (a .value))
 
-pub limit-is : (x : Float) → Length x → LimitIs (natural (Rattle.breaking.specs.Breaking.definite (sixtyFourths x))) true (scaledF x)
-limit-is x l =
-    let a = at-of-grid x (l .grid) in
-    subst (λ (z : ℤ). LimitIs (natural (Rattle.breaking.specs.Breaking.definite z)) true (scaledF x)) (a .total)
-    (limit-pixels x (a .sign) (a .size) (omega (arith, l .small, ap natAbs (a .total), abs-signed (a .sign) (a .size))) (a .value))
+pub limit-is : (x : Float) → Length x → LimitIs (natural (definite (sixtyFourths x))) true (scaledF x)
+limit-is x l = limit-pixels x (sixtyFourths x) (omega (arith, l .small)) (at-of-grid x (l .grid))
 
 -- ---- the limit, by its cases
 definite-length : (limit : AvailableSpace) (x : Float) → limit ≡ Definite x → LengthLimit limit → Length x
@@ -71,7 +63,7 @@ cap-definite limit x r e l q = rw (e, q) (limit-is x (definite-length limit x e 
 
 pub cap-min : (limit : AvailableSpace) → limit ≡ MinContent → LimitIs (natural (limitOf limit)) true (neg (ofBits binary64 4607182418800017408))
 unfolding limitOf ofBits neg
-cap-min limit e = rw e (limit-below 0 (neg (ofBits binary64 4607182418800017408)) (refl, refl))
+cap-min limit e = rw e (limit-definite (negsuc 0) (neg (ofBits binary64 4607182418800017408)) (record { sign = true; size = 1; value = (refl, refl); total = refl }))
 
 pub cap-max : (limit : AvailableSpace) → limit ≡ MaxContent → LimitIs (natural (limitOf limit)) false (ofBits binary64 0)
 unfolding limitOf

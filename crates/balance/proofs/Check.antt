@@ -1,16 +1,21 @@
 -- A test that computes whether a division is the one that the rule names, by trying every division: for worked examples only. The rule does not rest on it.
--- `checked` says that the test tells the truth. Assumes nothing.
+-- `case-by-test` says that the test tells the truth. Assumes nothing.
 use mathlib.Core.Path.{_≡_, refl, ap}
 use mathlib.Core.Logic.{_⊎_, inl, inr}
-use mathlib.Core.List.{List, [], _∷_}
+use mathlib.Core.List.{List, [], _∷_, map}
 use mathlib.Core.Bool.{Bool, true, false, not, _&&_, _||_}
 use Prim.Native.Nat.{ℕ, zero, suc, _+_, _-_, _*_, _≤_, _<_, max}
 use native.Mathlib.Nat.{eq-or-lt-of-le}
 use native.Mathlib.Omega.{arith}
 use lib.ListN.{length, getD, take, drop, length-drop}
+use lib.IntN.{ℤ, pos}
 use lib.Dec.{T, leb, ltb, eqb, leb→le, le→leb, ltb→lt, lt→ltb, eqb→eq, eqb-refl, not-T, T-not}
-use Rattle.balance.specs.Natural.{Limit, max-content, definite, definite-below-0, Fits, lineSize, Line, Valid, score, Better, Chosen, GreedyLine, Greedy, Balanced}
+use Rattle.balance.specs.Natural.{Limit, max-content, definite, definite-below-0, Fits, lineSize, Line, Valid, score, Better, Chosen, GreedyLine, Greedy}
 use Rattle.balance.specs.Rule.{MoreFirst, held}
+use Rattle.balance.specs.Rule as rule
+use Rattle.balance.specs.Run.{natural}
+use Rattle.balance.proofs.Bridge.{size, balanced-is}
+use Rattle.breaking.specs.Breaking as limit
 
 and-l : (a b : Bool) → T (a && b) → T a
 and-l true b t = tt
@@ -272,45 +277,49 @@ greedyB→ : (l : Limit) (g : ℕ) (xs d : List ℕ) → T (greedyB l g xs d) �
 greedyB→ l g xs [] t = empty xs (eqb→eq (length xs) 0 t)
 greedyB→ l g xs (c ∷ d) t = (greedyLineB→ l g xs c (and-l (greedyLineB l g xs c) (greedyB l g (drop c xs) d) t), greedyB→ l g (drop c xs) d (and-r (greedyLineB l g xs c) (greedyB l g (drop c xs) d) t))
 
--- ---- a worked example: the greedy counts, and the balanced ones
+-- ---- a worked example: sizes in sixty-fourths, the greedy counts over them, and the balanced ones
 pub record Case : Type 0 where
-  pub limit : Limit
+  pub limit : limit.Limit
   pub gap : ℕ
-  pub xs : List ℕ
+  pub sizes : List ℤ
   pub minimum : ℕ
   pub greedy : List ℕ
   pub counts : List ℕ
 
 abbrev pub caseB : Case → Bool
-caseB c = greedyB (c .limit) (c .gap) (c .xs) (c .greedy) && (eqb (length (c .counts)) (max (length (c .greedy)) (held (c .minimum) (length (c .xs)))) && chosenB (c .limit) (c .gap) (c .xs) (c .counts))
+caseB c =
+    greedyB (natural (c .limit)) (c .gap) (map size (c .sizes)) (c .greedy)
+    && (eqb (length (c .counts)) (max (length (c .greedy)) (held (c .minimum) (length (map size (c .sizes))))) && chosenB (natural (c .limit)) (c .gap) (map size (c .sizes)) (c .counts))
 
-pub case-by-test : (c : Case) → T (caseB c) → Balanced (c .limit) (c .gap) (c .xs) (c .minimum) (c .counts)
+pub case-by-test : (c : Case) → T (caseB c) → rule.Balanced (c .limit) (pos (c .gap)) (c .sizes) (c .minimum) (c .counts)
 case-by-test c t =
-    let A = greedyB (c .limit) (c .gap) (c .xs) (c .greedy) in
-    let K = eqb (length (c .counts)) (max (length (c .greedy)) (held (c .minimum) (length (c .xs)))) in
-    let B = chosenB (c .limit) (c .gap) (c .xs) (c .counts) in
+    let l : Limit = natural (c .limit) in
+    let xs : List ℕ = map size (c .sizes) in
+    let A : Bool = greedyB l (c .gap) xs (c .greedy) in
+    let K : Bool = eqb (length (c .counts)) (max (length (c .greedy)) (held (c .minimum) (length xs))) in
+    let B : Bool = chosenB l (c .gap) xs (c .counts) in
     let u : T (K && B) = and-r A (K && B) t in
-    record {
-      count = record { greedy = c .greedy; is-greedy = greedyB→ (c .limit) (c .gap) (c .xs) (c .greedy) (and-l A (K && B) t); is = eqb→eq (length (c .counts)) (max (length (c .greedy)) (held (c .minimum) (length (c .xs)))) (and-l K B u) };
-      chosen = chosen-by-test (c .limit) (c .gap) (c .xs) (c .counts) (and-r K B u);
-    }
+    balanced-is (c .limit) (c .gap) (c .sizes) (c .minimum) (c .counts) (record {
+      count = record { greedy = c .greedy; is-greedy = greedyB→ l (c .gap) xs (c .greedy) (and-l A (K && B) t); is = eqb→eq (length (c .counts)) (max (length (c .greedy)) (held (c .minimum) (length xs))) (and-l K B u) };
+      chosen = chosen-by-test l (c .gap) xs (c .counts) (and-r K B u);
+    })
 
--- THE TABLE of document 01, P1 to P9, and the slip of its "Easy slips": sizes and limits in sixty-fourths
-abbrev px : ℕ → ℕ
-px n = n * 64
+-- THE TABLE of document 01, P1 to P9, and the list of its "Easy slips"
+abbrev px : ℕ → ℤ
+px n = pos (n * 64)
 
 abbrev pub table : List Case
 table =
-    record { limit = definite (px 100); gap = px 10; xs = px 70 ∷ 0 ∷ px 20 ∷ []; minimum = 1; greedy = 2 ∷ 1 ∷ []; counts = 2 ∷ 1 ∷ [] }
-    ∷ record { limit = definite (px 100); gap = 0; xs = px 150 ∷ 0 ∷ px 30 ∷ []; minimum = 1; greedy = 1 ∷ 2 ∷ []; counts = 1 ∷ 2 ∷ [] }
-    ∷ record { limit = definite (px 100); gap = 0; xs = px 70 ∷ 0 ∷ 0 ∷ []; minimum = 2; greedy = 3 ∷ []; counts = 2 ∷ 1 ∷ [] }
-    ∷ record { limit = definite (px 100); gap = 0; xs = px 10 ∷ px 10 ∷ px 10 ∷ []; minimum = 2; greedy = 3 ∷ []; counts = 2 ∷ 1 ∷ [] }
-    ∷ record { limit = definite (px 150); gap = 0; xs = px 50 ∷ px 50 ∷ px 50 ∷ px 10 ∷ []; minimum = 1; greedy = 3 ∷ 1 ∷ []; counts = 2 ∷ 2 ∷ [] }
-    ∷ record { limit = definite (px 100); gap = px 10; xs = px 45 ∷ px 45 ∷ []; minimum = 1; greedy = 2 ∷ []; counts = 2 ∷ [] }
-    ∷ record { limit = max-content; gap = 0; xs = px 5 ∷ []; minimum = 9; greedy = 1 ∷ []; counts = 1 ∷ [] }
-    ∷ record { limit = definite (px 100); gap = 0; xs = []; minimum = 1; greedy = []; counts = [] }
-    ∷ record { limit = max-content; gap = 0; xs = px 5 ∷ px 6 ∷ []; minimum = 0; greedy = 2 ∷ []; counts = 2 ∷ [] }
-    ∷ record { limit = definite (px 90); gap = px 10; xs = px 30 ∷ px 5 ∷ px 40 ∷ px 20 ∷ 0 ∷ 0 ∷ px 35 ∷ []; minimum = 1; greedy = 2 ∷ 4 ∷ 1 ∷ []; counts = 2 ∷ 1 ∷ 4 ∷ [] }
+    record { limit = limit.definite (px 100); gap = 640; sizes = px 70 ∷ px 0 ∷ px 20 ∷ []; minimum = 1; greedy = 2 ∷ 1 ∷ []; counts = 2 ∷ 1 ∷ [] }
+    ∷ record { limit = limit.definite (px 100); gap = 0; sizes = px 150 ∷ px 0 ∷ px 30 ∷ []; minimum = 1; greedy = 1 ∷ 2 ∷ []; counts = 1 ∷ 2 ∷ [] }
+    ∷ record { limit = limit.definite (px 100); gap = 0; sizes = px 70 ∷ px 0 ∷ px 0 ∷ []; minimum = 2; greedy = 3 ∷ []; counts = 2 ∷ 1 ∷ [] }
+    ∷ record { limit = limit.definite (px 100); gap = 0; sizes = px 10 ∷ px 10 ∷ px 10 ∷ []; minimum = 2; greedy = 3 ∷ []; counts = 2 ∷ 1 ∷ [] }
+    ∷ record { limit = limit.definite (px 150); gap = 0; sizes = px 50 ∷ px 50 ∷ px 50 ∷ px 10 ∷ []; minimum = 1; greedy = 3 ∷ 1 ∷ []; counts = 2 ∷ 2 ∷ [] }
+    ∷ record { limit = limit.definite (px 100); gap = 640; sizes = px 45 ∷ px 45 ∷ []; minimum = 1; greedy = 2 ∷ []; counts = 2 ∷ [] }
+    ∷ record { limit = limit.max-content; gap = 0; sizes = px 5 ∷ []; minimum = 9; greedy = 1 ∷ []; counts = 1 ∷ [] }
+    ∷ record { limit = limit.definite (px 100); gap = 0; sizes = []; minimum = 1; greedy = []; counts = [] }
+    ∷ record { limit = limit.max-content; gap = 0; sizes = px 5 ∷ px 6 ∷ []; minimum = 0; greedy = 2 ∷ []; counts = 2 ∷ [] }
+    ∷ record { limit = limit.definite (px 90); gap = 640; sizes = px 30 ∷ px 5 ∷ px 40 ∷ px 20 ∷ px 0 ∷ px 0 ∷ px 35 ∷ []; minimum = 1; greedy = 2 ∷ 4 ∷ 1 ∷ []; counts = 2 ∷ 1 ∷ 4 ∷ [] }
     ∷ []
 
 abbrev tableB : List Case → Bool
@@ -322,12 +331,12 @@ table-passes = tt
 
 abbrev pub Every : List Case → Type 0
 Every [] = Unit {0}
-Every (c ∷ cs) = Balanced (c .limit) (c .gap) (c .xs) (c .minimum) (c .counts) × Every cs
+Every (c ∷ cs) = rule.Balanced (c .limit) (pos (c .gap)) (c .sizes) (c .minimum) (c .counts) × Every cs
 
 every-case : (cs : List Case) → T (tableB cs) → Every cs
 every-case [] t = tt
 every-case (c ∷ cs) t = (case-by-test c (and-l (caseB c) (tableB cs) t), every-case cs (and-r (caseB c) (tableB cs) t))
 
--- each case of the table is what the rule says
+-- each case of the table is what the plain rule says
 pub table-holds : Every table
 table-holds = every-case table table-passes

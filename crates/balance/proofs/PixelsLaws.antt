@@ -3,24 +3,25 @@ use mathlib.Core.Path.{_≡_, refl, sym, _∙_}
 use mathlib.Core.Logic.{_⊎_, inl, inr}
 use mathlib.Core.List.{List}
 use mathlib.Core.Bool.{Bool, true, false, true≢false, false≢true}
-use Prim.Native.Nat.{ℕ, zero, suc, _+_, _*_, _^_, _≤_, _<_}
+use Prim.Native.Nat.{ℕ, zero, suc, _+_, _*_, _^_, _≤_, _<_, zero-le}
 use native.Mathlib.Nat.{mul-one, zero-mul, eq-of-mul-eq-mul-right, eq-zero-or-pos}
 use native.Mathlib.Omega.{arith}
 use lib.Dec.{lt→ltb}
 use lib.ListN.{length, getD, set}
-use lib.IntN.{pos}
+use lib.IntN.{ℤ, pos, natAbs}
 use lib.Ieee.{Float, nan, inf, fin, binary32, binary64, up, down, add, mul, lt, ofBits}
 use lib.Ieee.Exact.{HasValue}
 use lib.Ieee.Back.{round-whole}
 use lib.Ieee.Scale.{round-same}
 use lib.Ieee.Fits.{down-pos}
-use Rattle.grid.specs.Grid.{signed}
+use Rattle.grid.specs.Grid.{At}
+use Rattle.grid.proofs.Convert.{scale-at}
 use Rattle.breaking.specs.Breaking as limit
 use Rattle.balance.specs.Whole.{Holds}
 use Rattle.balance.specs.Run.{natural}
 use Rattle.balance.proofs.SizesLaws.{pre-step, pre-mono}
 use Rattle.balance.specs.Tables.{LimitIs}
-use Rattle.balance.proofs.TablesLaws.{SumsSoFar, sums-more, limit-definite, limit-minus-zero, limit-below}
+use Rattle.balance.proofs.TablesLaws.{SumsSoFar, sums-more, limit-definite}
 use Rattle.balance.specs.Pixels.{scaledF, SizeIs, SizeOut, SizesAre, AddOut}
 
 abbrev pub sixty-four : Float
@@ -105,19 +106,7 @@ add-end sizes gap sums acc i h e A = record {
   };
 }
 
-pub scaled-minus : (v : Float) (x : ℕ) → x ≤ 2 ^ 53 → HasValue v true x 64 → HasValue (mul binary64 v sixty-four) true x 1
-unfolding mul
-scaled-minus nan x h p = absurd p
-scaled-minus (inf s) x h p = absurd p
-scaled-minus (fin false m e) x h p = absurd (false≢true (p .0))
-scaled-minus (fin true m e) x h p =
-    rw
-    (round-same binary64 true (m * up e * 64) (down e * 1) x 1 (rw mul-one (down-pos e)) (omega arith) (rw (mul-one (m * up e * 64), mul-one (down e)) (p .1)))
-    (round-whole binary64 true x h)
-
--- a definite limit, in pixels: of either sign
-pub limit-pixels : (v : Float) (s : Bool) (m : ℕ) → m ≤ 2 ^ 53 → HasValue v s m 64 → LimitIs (natural (limit.definite (signed s m))) true (scaledF v)
+-- a definite limit, in pixels
+pub limit-pixels : (v : Float) (z : ℤ) → natAbs z ≤ 2 ^ 53 → At 64 v z → LimitIs (natural (limit.definite z)) true (scaledF v)
 unfolding ofBits
-limit-pixels v false m h g = limit-definite m (mul binary64 v sixty-four) (scaled v m h g)
-limit-pixels v true zero h g = limit-minus-zero (mul binary64 v sixty-four) (scaled-minus v 0 h g)
-limit-pixels v true (suc m) h g = limit-below m (mul binary64 v sixty-four) (scaled-minus v (suc m) h g)
+limit-pixels v z h g = limit-definite z (mul binary64 v sixty-four) (scale-at binary64 0 6 sixty-four zero-le g (refl, refl) h)

@@ -2,21 +2,27 @@
 use mathlib.Core.Path.{_≡_, refl, sym, subst, _∙_}
 use mathlib.Core.Logic.{_⊎_, inl, inr, _≢_}
 use mathlib.Core.List.{List}
-use mathlib.Core.Bool.{Bool, true, false, true≢false}
+use mathlib.Core.Bool.{Bool, true, false, true≢false, false≢true}
 use Prim.Native.Nat.{ℕ, suc, _+_, _-_, _^_, _≤_, _<_, max}
 use native.Mathlib.Nat.{le-refl}
 use native.Mathlib.Numerals.{add-one}
 use native.Mathlib.Omega.{arith}
+use borrow.Author.Tests.{leb-true, leb-false}
 use lib.ListN.{length, getD, set, length-set, List·getD-eq-default}
 use lib.Seq.{getD-set-same, getD-set-other}
 use lib.Ieee.{Float, nan, binary64, add}
-use lib.Ieee.Exact.{HasValue}
-use Rattle.balance.specs.Natural.{Limit, max-content, definite, definite-below-0, Fits}
+use lib.IntN.{ℤ, pos, negsuc}
+use lib.Signed.{leZ}
+use Rattle.grid.specs.Grid.{At}
+use Rattle.grid.proofs.Exact.{le-at}
+use Rattle.breaking.specs.Breaking as limit
+use Rattle.balance.specs.Natural.{Limit, max-content, Fits}
+use Rattle.balance.specs.Run.{natural}
 use Rattle.balance.proofs.DpLaws.{lt-or-ge, Order, order, less, same, more}
 use Rattle.balance.specs.Sizes.{pre, sizeAt, FitEnd, GreedyCounts}
 use Rattle.balance.proofs.SizesLaws.{fits-less, size-mono, fit-under, pre-step, pre-mono}
 use Rattle.balance.specs.Whole.{Holds}
-use Rattle.balance.proofs.WholeLaws.{le-true, le-false, le-negative, le-minus-zero, not-le-minus-zero, add-holds}
+use Rattle.balance.proofs.WholeLaws.{holds-at, add-holds}
 use Rattle.balance.specs.Cells.{sizeF, ends}
 use Rattle.balance.proofs.Steps.{size-holds}
 use Rattle.balance.specs.Tables.{fitsF, LimitIs, SumsAre, StretchOut, CountsFrom, FitRange, Rising, Falling, Reaches, FirstFor}
@@ -24,11 +30,20 @@ use Rattle.balance.specs.Tables.{fitsF, LimitIs, SumsAre, StretchOut, Co
 pub limit-max : (x : Float) → LimitIs max-content false x
 limit-max x = record { yes-fits = λ y a h t. tt; no-fit = λ y a h t. absurd (true≢false t) }
 
-pub limit-definite : (m : ℕ) (x : Float) → Holds x m → LimitIs (definite m) true x
-limit-definite m x g = record {
-  yes-fits = λ y a h t. le-true y x a m h g t;
-  no-fit = λ y a h t f. let q : m < a = le-false y x a m h g t in omega arith;
+-- a definite limit of either sign: the comparison is that of the numbers, and a size is not negative
+pub limit-definite : (z : ℤ) (x : Float) → At 1 x z → LimitIs (natural (limit.definite z)) true x
+limit-definite z x g = record {
+  yes-fits = λ y a h t. yes z a (sym (le-at 1 (omega arith) (holds-at y a h) g) ∙ t);
+  no-fit = λ y a h t. none z a (sym (le-at 1 (omega arith) (holds-at y a h) g) ∙ t);
 }
+  where
+    yes : (z : ℤ) (a : ℕ) → leZ (pos a) z ≡ true → Fits (natural (limit.definite z)) a
+    yes (pos m) a t = leb-true a m t
+    yes (negsuc m) a t = absurd (false≢true t)
+
+    none : (z : ℤ) (a : ℕ) → leZ (pos a) z ≡ false → ¬ Fits (natural (limit.definite z)) a
+    none (pos m) a t f = absurd (omega (arith, leb-false a m t))
+    none (negsuc m) a t f = f
 
 -- ---- the table of fit ends, up to `start`. `end` is the last one
 pub record FitSoFar (sums : List Float) (gap : Float) (bounded : Bool) (limit : Float) (fit : List ℕ) (start end : ℕ) : Type 0 where
@@ -212,9 +227,6 @@ filled-more l f lo i x h e F s u p = go (order s i)
     go (same q) = rw q (getD-set-same l i x nan h ∙ e)
     go (more q) = absurd (omega arith)
 
-pub limit-below : (m : ℕ) (x : Float) → HasValue x true (suc m) 1 → LimitIs definite-below-0 true x
-limit-below m x g = record { yes-fits = λ y a h t. le-negative y x a m h g t; no-fit = λ y a h t f. f }
-
 -- ---- adding up: `acc` is the sum so far
 pub record SumsSoFar (g : ℕ) (xs : List ℕ) (sums : List Float) (acc : Float) (i : ℕ) : Type 0 where
   pub acc-is : Holds acc (pre g xs i)
@@ -242,9 +254,3 @@ sums-more g xs sums gapF size acc i h hl small gi si S = record { acc-is = rw ad
     at j p (less l) = rw (getD-set-other sums i j (add binary64 acc (add binary64 size gapF)) nan (let q : j ≢ i = omega arith in q)) (S .sums-are j l)
     at j p (same l) = rw (l, getD-set-same sums i (add binary64 acc (add binary64 size gapF)) nan hl) new
     at j p (more l) = absurd (omega arith)
-
-pub limit-minus-zero : (x : Float) → HasValue x true 0 1 → LimitIs (definite 0) true x
-limit-minus-zero x g = record {
-  yes-fits = λ y a h t. omega (arith, le-minus-zero y x a h g t);
-  no-fit = λ y a h t f. not-le-minus-zero y x a h g t (let q : a ≡ 0 = omega arith in q);
-}

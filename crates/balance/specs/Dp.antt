@@ -1,6 +1,6 @@
 -- The dynamic program over positions, apart from sizes. A line goes from the item s up to, not including, the item t, and k lines follow it.
 -- F s is where the longest allowed line from s ends, G s the greedy line count of the items from s on, Z t says that item t is zero, and w s t
--- is the score of the line from s to t. Assumes nothing: what is asked of F, G, Z and w is the record `Laws`.
+-- is the score of the line from s to t. Only private functions' contracts cite it. Assumes nothing: what is asked of F, G, Z and w is the record `Laws`.
 use mathlib.Core.Path.{_≡_}
 use mathlib.Core.Logic.{_⊎_}
 use mathlib.Core.List.{List, [], _∷_}

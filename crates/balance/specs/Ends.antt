@@ -1,4 +1,4 @@
--- Which ends a range of starts needs among those that no zero item follows. A line's last item is e, so that the next line starts at e + 1. Assumes nothing.
+-- Which ends a range of starts needs among those that no zero item follows. A line's last item is e, so that the next line starts at e + 1. Only private functions' contracts cite it. Assumes nothing.
 use Prim.Native.Nat.{ℕ, _+_, _≤_, _<_}
 use Rattle.balance.specs.Dp.{Argmin, Nonzero}
 

@@ -1,4 +1,4 @@
--- What the rows are given and what they give. Assumes nothing.
+-- What the rows are given and what they give. Only private functions' contracts cite it. Assumes nothing.
 use mathlib.Core.Path.{_≡_}
 use mathlib.Core.Bool.{Bool}
 use mathlib.Core.List.{List}

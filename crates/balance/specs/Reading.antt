@@ -1,4 +1,4 @@
--- What reading the division back is given, and gives. Assumes nothing.
+-- What reading the division back is given, and gives. Only private functions' contracts cite it. Assumes nothing.
 use mathlib.Core.Path.{_≡_}
 use mathlib.Core.List.{List}
 use Prim.Native.Nat.{ℕ, _+_, _-_, _*_, _≤_, _<_}

@@ -1,4 +1,4 @@
--- From the rule's lists to positions: sums, and where a line stops fitting. Assumes nothing.
+-- From the rule's lists to positions: sums, and where a line stops fitting. Only private functions' contracts cite it. Assumes nothing.
 use mathlib.Core.Path.{_≡_}
 use mathlib.Core.Logic.{_⊎_}
 use mathlib.Core.List.{List, [], _∷_}

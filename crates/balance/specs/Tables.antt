@@ -1,4 +1,4 @@
--- The tables that the rows are worked out from: fit ends, greedy counts, how far the first lines reach. Assumes nothing.
+-- The tables that the rows are worked out from: fit ends, greedy counts, how far the first lines reach. Only private functions' contracts cite it. Assumes nothing.
 use mathlib.Core.Path.{_≡_}
 use mathlib.Core.Logic.{_⊎_}
 use mathlib.Core.List.{List}

@@ -16,8 +16,8 @@ use super::sums::Units;
 use super::sums::base;
 use super::sums::line_size;
 
-// Fills the starts from `start_lo` up to `start_hi` of a row: the middle one by its choice, and the two halves by calls of itself, each with the ends that its starts
-// may still need.
+// Fills the starts from `lo` up to `hi` of a row: the middle one by its choice, and the two halves by calls of itself, each with the ends
+// that its starts may still need, of those from `from` up to `to`. No line ends past `last`.
 pub fn fill_row<'a>(
     sums: &'a [f64],
     gap: Units,
@@ -25,55 +25,31 @@ pub fn fill_row<'a>(
     prev: &'a [f64],
     cur: &mut [f64],
     opts: &mut [u32],
-    max_end: usize,
-    start_lo: usize,
-    start_hi: usize,
-    end_lo: usize,
-    end_hi: usize,
+    last: usize,
+    lo: usize,
+    hi: usize,
+    from: usize,
+    to: usize,
 )
-    requires { ⌜ Safe (now sums) (now fit) (now prev) «max_end» «end_hi» × («start_hi» ≤ «max_end» + 1) × (length (now cur) ≡ length (now prev)) × (length (now opts) ≡ length (now prev)) ⌝ }
-    ensures { λ _. ⌜ RowOut (now (sums .entry)) (gap .0) (now (fit .entry)) (now (prev .entry)) «max_end» «start_lo» «start_hi» «end_lo» «end_hi» (now (cur .entry)) (now (cur .exit)) (now (opts .entry)) (now (opts .exit)) ⌝ }
+    requires { ⌜ Safe (now sums) (now fit) (now prev) last to × (hi ≤ last + 1) × (length (now cur) ≡ length (now prev)) × (length (now opts) ≡ length (now prev)) ⌝ }
+    ensures { λ _. ⌜ RowOut (now (sums .entry)) (gap .0) (now (fit .entry)) (now (prev .entry)) last lo hi from to (now (cur .entry)) (now (cur .exit)) (now (opts .entry)) (now (opts .exit)) ⌝ }
 {
-    if start_lo < start_hi {
-        let start = start_lo + (start_hi - start_lo) / 2;
+    if lo < hi {
+        let start = lo + (hi - lo) / 2;
         let b = base(sums, gap, start);
-        let p = pick(sums, gap, fit, prev, max_end, start, b, end_lo, end_hi);
+        let p = pick(sums, gap, fit, prev, last, start, b, from, to);
         let end = p.end;
-        let lo = p.lo;
-        let hi = p.hi;
+        let near = p.lo;
+        let far = p.hi;
         let c = cost(sums, prev, b, end);
         cur[start] = c.0;
         opts[start] = end as u32;
-        if start_lo < start {
-            fill_row(
-                sums,
-                gap,
-                fit,
-                prev,
-                cur,
-                opts,
-                max_end,
-                start_lo,
-                start,
-                end_lo,
-                hi,
-            );
+        if lo < start {
+            fill_row(sums, gap, fit, prev, cur, opts, last, lo, start, from, far);
         }
         let next = start + 1;
-        if next < start_hi {
-            fill_row(
-                sums,
-                gap,
-                fit,
-                prev,
-                cur,
-                opts,
-                max_end,
-                next,
-                start_hi,
-                lo,
-                end_hi,
-            );
+        if next < hi {
+            fill_row(sums, gap, fit, prev, cur, opts, last, next, hi, near, to);
         }
     }
 }

@@ -1,4 +1,4 @@
--- `balance::cells::at` meets its contract. Assumes nothing.
+-- `balance::cells::at` meets its contract: the cell is read in range, and a u32 fits a usize. Assumes nothing.
 use native.Mathlib.Omega.{arith}
 use borrow.Author.Needs.{needs}
 use Rattle.balance.proofs.cells.at.Statement.{statement}

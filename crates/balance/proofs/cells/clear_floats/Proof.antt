@@ -1,4 +1,4 @@
--- `balance::cells::clear_floats` meets its contract. Assumes nothing.
+-- `balance::cells::clear_floats` meets its contract: every cell before i is 0 (Clearing.antt). Assumes nothing.
 use mathlib.Core.Path.{refl}
 use Prim.Native.Nat.{_-_}
 use native.Mathlib.Omega.{arith}

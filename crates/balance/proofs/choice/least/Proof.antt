@@ -1,4 +1,4 @@
--- `balance::choice::least` meets its contract. Assumes nothing.
+-- `balance::choice::least` meets its contract: `best` leads among the ends seen so far (`Leading` of Steps.antt). Assumes nothing.
 use mathlib.Core.Logic.{⊎-elim}
 use Prim.Native.Nat.{_-_}
 use native.Mathlib.Omega.{arith}

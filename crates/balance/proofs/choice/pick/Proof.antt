@@ -1,4 +1,4 @@
--- `balance::choice::pick` meets its contract. Assumes nothing.
+-- `balance::choice::pick` meets its contract: by whether an end that no zero item follows is left (`pick-some`, `pick-none` of Steps.antt). Assumes nothing.
 use mathlib.Core.Path.{_≡_}
 use Prim.Native.Nat.{_+_, min, max}
 use native.Mathlib.Omega.{arith}

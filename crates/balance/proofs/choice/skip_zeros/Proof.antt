@@ -1,4 +1,4 @@
--- `balance::choice::skip_zeros` meets its contract. Assumes nothing.
+-- `balance::choice::skip_zeros` meets its contract: a zero item follows every end that is passed. Assumes nothing.
 use mathlib.Core.Path.{sym, _∙_}
 use Prim.Native.Nat.{_-_}
 use native.Mathlib.Nat.{le-refl}

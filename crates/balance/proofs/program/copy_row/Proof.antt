@@ -1,4 +1,4 @@
--- `balance::program::copy_row` meets its contract. Assumes nothing.
+-- `balance::program::copy_row` meets its contract: the cells from `lo` up to i are copied. Assumes nothing.
 use mathlib.Core.Path.{_≡_, refl}
 use Prim.Native.Nat.{_-_}
 use native.Mathlib.Omega.{arith}

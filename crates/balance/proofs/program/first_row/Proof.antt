@@ -1,4 +1,4 @@
--- `balance::program::first_row` meets its contract. Assumes nothing.
+-- `balance::program::first_row` meets its contract: every cell before `start` is the square of the line from it to the last item. Assumes nothing.
 use mathlib.Core.Path.{_≡_, refl}
 use Prim.Native.Nat.{_-_, _≤_}
 use native.Mathlib.Omega.{arith}

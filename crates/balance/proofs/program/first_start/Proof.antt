@@ -1,4 +1,4 @@
--- `balance::program::first_start` meets its contract. Assumes nothing.
+-- `balance::program::first_start` meets its contract: greedy counts fall, so the first start is found from behind. Assumes nothing.
 use Prim.Native.Nat.{_≤_}
 use native.Mathlib.Nat.{le-refl}
 use native.Mathlib.Omega.{arith}

@@ -1,4 +1,4 @@
--- `balance::program::one_row` meets its contract. Assumes nothing.
+-- `balance::program::one_row` meets its contract: the range is filled and copied (`one-row` of ProgramLaws.antt). Assumes nothing.
 use Prim.Native.Nat.{_+_}
 use native.Mathlib.Omega.{arith}
 use borrow.Author.Needs.{needs}

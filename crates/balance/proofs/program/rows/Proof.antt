@@ -1,4 +1,4 @@
--- `balance::program::rows` meets its contract. Assumes nothing.
+-- `balance::program::rows` meets its contract: the rows so far are kept, and the last one stands in `prev` (`rows-more` of ProgramLaws.antt). Assumes nothing.
 use mathlib.Core.Path.{_≡_, refl, sym, _∙_}
 use mathlib.Core.List.{_++_}
 use Prim.Native.Nat.{ℕ, _+_, _-_, _*_, _≤_}

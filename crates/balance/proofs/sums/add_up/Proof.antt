@@ -1,4 +1,4 @@
--- `balance::sums::add_up` meets its contract. Assumes nothing.
+-- `balance::sums::add_up` meets its contract: `acc` is the sum of the items before i (PixelsLaws.antt). Assumes nothing.
 use mathlib.Core.Path.{_≡_, refl, _∙_}
 use Prim.Native.Nat.{_-_}
 use native.Mathlib.Omega.{arith}

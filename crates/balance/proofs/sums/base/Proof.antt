@@ -1,4 +1,4 @@
--- `balance::sums::base` meets its contract. Assumes nothing.
+-- `balance::sums::base` meets its contract: by what `before` gives. Assumes nothing.
 use borrow.Author.Needs.{needs}
 use Rattle.balance.proofs.sums.base.Statement.{statement}
 use Rattle.balance.proofs.sums.base.Tie as tie

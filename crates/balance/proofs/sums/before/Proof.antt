@@ -1,4 +1,4 @@
--- `balance::sums::before` meets its contract. Assumes nothing.
+-- `balance::sums::before` meets its contract: by whether there is an item before. Assumes nothing.
 use borrow.Author.Needs.{needs}
 use Rattle.balance.proofs.CellsLaws.{before-zero, before-pos}
 use Rattle.balance.proofs.sums.before.Statement.{statement}

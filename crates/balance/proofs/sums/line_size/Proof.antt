@@ -1,4 +1,4 @@
--- `balance::sums::line_size` meets its contract. Assumes nothing.
+-- `balance::sums::line_size` meets its contract: by what `before` gives. Assumes nothing.
 use borrow.Author.Needs.{needs}
 use Rattle.balance.proofs.sums.line_size.Statement.{statement}
 use Rattle.balance.proofs.sums.line_size.Tie as tie

@@ -1,4 +1,4 @@
--- `balance::tables::fit_ends` meets its contract. Assumes nothing.
+-- `balance::tables::fit_ends` meets its contract: the ends before `start` are fit ends, and the next is no sooner (`fit-more` of TablesLaws.antt). Assumes nothing.
 use mathlib.Core.Path.{_≡_, refl}
 use Prim.Native.Nat.{_-_, _≤_}
 use native.Mathlib.Omega.{arith}

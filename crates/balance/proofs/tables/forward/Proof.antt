@@ -1,4 +1,4 @@
--- `balance::tables::forward` meets its contract. Assumes nothing.
+-- `balance::tables::forward` meets its contract: no line after the first i starts past `start` (`reach-more` of TablesLaws.antt). Assumes nothing.
 use mathlib.Core.Path.{_≡_, refl}
 use Prim.Native.Nat.{_-_}
 use native.Mathlib.Omega.{arith}

@@ -1,4 +1,4 @@
--- `balance::tables::past` meets its contract. Assumes nothing.
+-- `balance::tables::past` meets its contract: by whether there is a line. Assumes nothing.
 use native.Mathlib.Omega.{arith}
 use borrow.Author.Needs.{needs}
 use Rattle.balance.proofs.tables.past.Statement.{statement}

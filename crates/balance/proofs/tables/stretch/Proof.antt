@@ -1,4 +1,4 @@
--- `balance::tables::stretch` meets its contract. Assumes nothing.
+-- `balance::tables::stretch` meets its contract: the line fits as far as it was stretched. Assumes nothing.
 use mathlib.Core.Path.{refl, sym, _∙_}
 use mathlib.Core.Logic.{inl, inr}
 use Prim.Native.Nat.{_-_}

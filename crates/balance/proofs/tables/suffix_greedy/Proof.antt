@@ -1,4 +1,4 @@
--- `balance::tables::suffix_greedy` meets its contract. Assumes nothing.
+-- `balance::tables::suffix_greedy` meets its contract: the counts from `start` on are right, since a line ends after it starts (`counts-more` of TablesLaws.antt). Assumes nothing.
 use mathlib.Core.Path.{_≡_}
 use Prim.Native.Nat.{_+_, _-_, _≤_}
 use native.Mathlib.Omega.{arith}

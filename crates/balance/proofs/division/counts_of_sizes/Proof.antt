@@ -1,12 +1,12 @@
--- `balance::counts_of_sizes` meets its contract. Assumes nothing.
+-- `balance::division::counts_of_sizes` meets its contract: the sums are those of the sizes (RunLaws.antt). Assumes nothing.
 use mathlib.Core.Path.{_≡_, sym, _∙_}
 use native.Mathlib.Omega.{arith}
 use lib.ListN.{length}
 use borrow.Author.Needs.{needs}
 use Rattle.balance.proofs.Clearing.{clear-rest}
 use Rattle.balance.proofs.RunLaws.{run-in, run-out}
-use Rattle.balance.proofs.counts_of_sizes.Statement.{statement}
-use Rattle.balance.proofs.counts_of_sizes.Tie as tie
+use Rattle.balance.proofs.division.counts_of_sizes.Statement.{statement}
+use Rattle.balance.proofs.division.counts_of_sizes.Tie as tie
 
 add-up-requires : tie.Need-add-up-requires
 add-up-requires c κs = search needs

@@ -1,16 +1,38 @@
--- `balance::line_item_counts` meets its contract. Assumes nothing.
+-- `balance::division::line_item_counts` meets its contract: the tables and the rows are those of the items, so that what is read back is chosen (Finish.antt). Assumes nothing.
 use mathlib.Core.Path.{_≡_, refl, _∙_}
+use mathlib.Core.List.{List}
+use Prim.Native.Nat.{ℕ}
 use native.Mathlib.Omega.{arith}
+use lib.Ieee.{Float}
 use lib.ListN.{length}
 use borrow.Author.Needs.{needs}
 use Rattle.balance.proofs.Finish.{fit-range, fit-rising, Made, K-hi, K-lo, rows-room, row-base, readable, finish}
-use Rattle.balance.proofs.line_item_counts.Statement.{statement}
-use Rattle.balance.proofs.line_item_counts.Tie as tie
+use Rattle.balance.proofs.division.line_item_counts.Statement.{statement}
+use Rattle.balance.proofs.division.line_item_counts.Tie as tie
+
+-- where the rows are called: the arguments, the tables, and the number of lines
+abbrev at-start : tie.After-rows-arg6 → tie.Start
+at-start c = c .before .before .before .before .before .before .before .before .before .before .before .before .before .before .before .before .before .before .before .before .before .before .before .before .before .before .before .before .before .before .before .before .before .before .before .before .before
+
+abbrev prev-of : tie.After-rows-arg6 → List Float
+prev-of c = c .before .before .before .before .before .before .before .before .first-row .last .1 .1 .0
+
+abbrev fit-of : tie.After-rows-arg6 → List ℕ
+fit-of c = c .before .before .before .before .before .before .before .before .before .before .before .before .before .before .before .before .before .before .before .before .before .before .before .before .before .before .before .fit-ends .last .1 .1 .1 .0
+
+abbrev greedy-of : tie.After-rows-arg6 → List ℕ
+greedy-of c = c .before .before .before .before .before .before .before .before .before .before .before .before .before .before .before .before .before .before .before .before .before .before .suffix-greedy .last .1 .0
+
+abbrev reach-of : tie.After-rows-arg6 → List ℕ
+reach-of c = c .before .before .before .before .before .before .before .before .before .before .before .before .forward .last .1 .0
+
+abbrev count-of : tie.After-rows-arg6 → ℕ
+count-of c = c .before .before .before .before .before .before .before .before .before .before .before .before .before .before .before .larger2 .result
 
 -- the tables, where the rows are called
-made : (c : tie.After-rows-arg6) → Made (c .before .before .before .before .before .before .before .before .before .before .before .before .before .before .before .before .before .before .before .before .before .before .before .before .before .before .before .before .before .before .before .before .before .before .before .before .before .args .sums .now) (c .before .before .before .before .before .before .before .before .before .before .before .before .before .before .before .before .before .before .before .before .before .before .before .before .before .before .before .before .before .before .before .before .before .before .before .before .before .args .gap .0) (c .before .before .before .before .before .before .before .before .before .before .before .before .before .before .before .before .before .before .before .before .before .before .before .before .before .before .before .before .before .before .before .before .before .before .before .before .before .args .limit .bounded) (c .before .before .before .before .before .before .before .before .before .before .before .before .before .before .before .before .before .before .before .before .before .before .before .before .before .before .before .before .before .before .before .before .before .before .before .before .before .args .limit .most .0) (c .before .before .before .before .before .before .before .before .before .before .before .before .before .before .before .before .before .before .before .before .before .before .before .before .before .before .before .before .before .before .before .before .before .before .before .before .before .args .minimum) (c .before .before .before .before .before .before .before .before .first-row .last .1 .1 .0) (c .before .before .before .before .before .before .before .before .before .before .before .before .before .before .before .before .before .before .before .before .before .before .before .before .before .before .before .fit-ends .last .1 .1 .1 .0) (c .before .before .before .before .before .before .before .before .before .before .before .before .before .before .before .before .before .before .before .before .before .before .suffix-greedy .last .1 .0) (c .before .before .before .before .before .before .before .before .before .before .before .before .forward .last .1 .0) (c .before .before .before .before .before .before .before .before .before .before .before .before .before .before .before .larger2 .result)
+made : (c : tie.After-rows-arg6) → Made (at-start c .args .sums .now) (at-start c .args .gap .0) (at-start c .args .limit .bounded) (at-start c .args .limit .most .0) (at-start c .args .minimum) (prev-of c) (fit-of c) (greedy-of c) (reach-of c) (count-of c)
 made c =
-    let st = c .before .before .before .before .before .before .before .before .before .before .before .before .before .before .before .before .before .before .before .before .before .before .before .before .before .before .before .before .before .before .before .before .before .before .before .before .before in
+    let st = at-start c in
     let q = st .pre .1 in
     record {
       some = st .pre .0 .1;
@@ -68,13 +90,13 @@ first-row-requires c κs = search needs
 
 rows-requires : tie.Need-rows-requires
 rows-requires c κs =
-    let st = c .before .before .before .before .before .before .before .before .before .before .before .before .before .before .before .before .before .before .before .before .before .before .before .before .before .before .before .before .before .before .before .before .before .before .before .before .before in
+    let st = at-start c in
     let a = st .args in
-    let prev = c .before .before .before .before .before .before .before .before .first-row .last .1 .1 .0 in
-    let fit = c .before .before .before .before .before .before .before .before .before .before .before .before .before .before .before .before .before .before .before .before .before .before .before .before .before .before .before .fit-ends .last .1 .1 .1 .0 in
-    let greedy = c .before .before .before .before .before .before .before .before .before .before .before .before .before .before .before .before .before .before .before .before .before .before .suffix-greedy .last .1 .0 in
-    let reach = c .before .before .before .before .before .before .before .before .before .before .before .before .forward .last .1 .0 in
-    let K = c .before .before .before .before .before .before .before .before .before .before .before .before .before .before .before .larger2 .result in
+    let prev = prev-of c in
+    let fit = fit-of c in
+    let greedy = greedy-of c in
+    let reach = reach-of c in
+    let K = count-of c in
     let m = made c in (
       row-base (a .sums .now) (a .gap .0) (a .limit .bounded) (a .limit .most .0) (a .minimum) prev fit greedy reach K m (st .pre .0 .0),
       omega (arith, st .pre .1 .1, m .prev-length),
@@ -86,13 +108,13 @@ rows-requires c κs =
 read-back-requires : tie.Need-read-back-requires
 read-back-requires c κs =
     let d = c .before .before .before .before .before .before .before .before .before in
-    let st = d .before .before .before .before .before .before .before .before .before .before .before .before .before .before .before .before .before .before .before .before .before .before .before .before .before .before .before .before .before .before .before .before .before .before .before .before .before in
+    let st = at-start d in
     let a = st .args in
-    let prev = d .before .before .before .before .before .before .before .before .first-row .last .1 .1 .0 in
-    let fit = d .before .before .before .before .before .before .before .before .before .before .before .before .before .before .before .before .before .before .before .before .before .before .before .before .before .before .before .fit-ends .last .1 .1 .1 .0 in
-    let greedy = d .before .before .before .before .before .before .before .before .before .before .before .before .before .before .before .before .before .before .before .before .before .before .suffix-greedy .last .1 .0 in
-    let reach = d .before .before .before .before .before .before .before .before .before .before .before .before .forward .last .1 .0 in
-    let K = d .before .before .before .before .before .before .before .before .before .before .before .before .before .before .before .larger2 .result in
+    let prev = prev-of d in
+    let fit = fit-of d in
+    let greedy = greedy-of d in
+    let reach = reach-of d in
+    let K = count-of d in
     let m = made d in
     let ro = c .before .before .before .before .before .before .before .before .rows in
     let opts = ro .last .1 .1 .1 .1 .1 .1 .1 .0 in
@@ -129,9 +151,9 @@ same-length-7 c = search needs
 returns : tie.Need-returns
 returns c =
     let d = c .before .before .before .before .before .before .before .before .before .before .before .before in
-    let a = d .before .before .before .before .before .before .before .before .before .before .before .before .before .before .before .before .before .before .before .before .before .before .before .before .before .before .before .before .before .before .before .before .before .before .before .before .before .args in
+    let a = at-start d .args in
     let ro = c .before .before .before .before .before .before .before .before .before .before .before .rows in
-    finish (a .sums .now) (a .gap .0) (a .limit .bounded) (a .limit .most .0) (a .minimum) (d .before .before .before .before .before .before .before .before .first-row .last .1 .1 .0) (d .before .before .before .before .before .before .before .before .before .before .before .before .before .before .before .before .before .before .before .before .before .before .before .before .before .before .before .fit-ends .last .1 .1 .1 .0) (d .before .before .before .before .before .before .before .before .before .before .before .before .before .before .before .before .before .before .before .before .before .before .suffix-greedy .last .1 .0) (d .before .before .before .before .before .before .before .before .before .before .before .before .forward .last .1 .0) (d .before .before .before .before .before .before .before .before .before .before .before .before .before .before .before .larger2 .result) (made d)
+    finish (a .sums .now) (a .gap .0) (a .limit .bounded) (a .limit .most .0) (a .minimum) (prev-of d) (fit-of d) (greedy-of d) (reach-of d) (count-of d) (made d)
     (ro .last .1 .1 .1 .1 .1 .0) (ro .last .1 .1 .1 .1 .1 .1 .1 .0) (ro .ensures) (c .before .before .read-back .last .1 .0) (c .before .before .read-back .ensures)
 
 pub line-item-counts-spec : {M : Type 1} → statement M

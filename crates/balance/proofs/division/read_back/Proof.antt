@@ -1,12 +1,12 @@
--- `balance::read_back` meets its contract. Assumes nothing.
+-- `balance::division::read_back` meets its contract: what is read so far, with the choice for the rest, is the choice for all (ReadingLaws.antt). Assumes nothing.
 use mathlib.Core.Path.{_≡_, refl}
 use Prim.Native.Nat.{_+_, _-_, _*_}
 use native.Mathlib.Omega.{arith}
 use lib.ListN.{length, getD, length-set}
 use Rattle.balance.proofs.ProgramLaws.{row-fits, row-small}
 use Rattle.balance.proofs.ReadingLaws.{ReadSoFar, read-start, read-choice, read-more, read-end}
-use Rattle.balance.proofs.read_back.Statement.{statement}
-use Rattle.balance.proofs.read_back.Tie as tie
+use Rattle.balance.proofs.division.read_back.Statement.{statement}
+use Rattle.balance.proofs.division.read_back.Tie as tie
 
 abbrev Inv-loop : tie.InvT-loop
 Inv-loop opts counts₀ n line-count start₀ lines₀ i₀ counts start lines i = (length counts ≡ length counts₀) × ReadSoFar opts n line-count counts start lines i
