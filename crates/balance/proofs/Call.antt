@@ -165,7 +165,7 @@ module _ (limit : AvailableSpace) (gap : Float) (minimum : ℕ) (sizes : List Fl
     accepted = λ _. (lines, refl, D);
   }
 
-  divides-one : (k j : ℕ) (a c : Lent) → Divides limit gap minimum sizes b k a → Divides limit gap minimum sizes b j c → (k ≡ j) × (a ≡ c)
+  pub divides-one : (k j : ℕ) (a c : Lent) → Divides limit gap minimum sizes b k a → Divides limit gap minimum sizes b j c → (k ≡ j) × (a ≡ c)
   divides-one k j a c p q =
       let d : p .division ≡ q .division = balanced-one (limitOf limit) (sixtyFourths gap) (units sizes) minimum (p .division) (q .division) (p .balanced) (q .balanced) in
       (p .lines-are ∙ ap length d ∙ sym (q .lines-are), p .cells ∙ ap (λ (l : List ℕ). worked (length sizes) l b) d ∙ sym (q .cells))
