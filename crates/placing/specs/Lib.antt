@@ -1,1 +1,4 @@
 pub mod Align
+pub mod Lists
+pub mod Axis
+pub mod MainAxis

@@ -1,2 +1,4 @@
 // Where items and lines stand: document 01, "Main axis" and "Cross axis" (CSS-FLEX 9.4 to 9.6, CSS-ALIGN 4 and 5).
 pub mod align; // align.rt: the alignment keywords, their fallback, and the offsets that they give
+pub mod axis; // axis.rt: what both axes share
+pub mod main_axis; // main_axis.rt: auto margins and offsets of one line
