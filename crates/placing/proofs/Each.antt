@@ -60,6 +60,9 @@ module _ {A : Type 0} where
   unfolding each
   written-none f old = refl
 
+  pub written-no-cell : {n : ℕ} (f : ℕ → A) (old : List A) → n ≡ 0 → old ≡ overwritten n f old
+  written-no-cell f old e = written-none f old ∙ ap (λ (k : ℕ). overwritten k f old) (sym e)
+
   pub written-length : (n : ℕ) (f : ℕ → A) (old : List A) {now : List A} → n ≤ length old → now ≡ overwritten n f old → length now ≡ length old
   written-length n f old h e = ap length e ∙ length-append (each n f) (drop n old) ∙ ap₂ (λ (a b : ℕ). a + b) (length-each n f) (length-drop n old) ∙ omega arith
 

@@ -1,3 +1,4 @@
 pub mod Counts
 pub mod Each
+pub mod MainLaws
 pub mod Spread

@@ -4,7 +4,7 @@ ghost use Prim.Native.Nat.{_≤_};
 ghost use lib.ListN.{length};
 ghost use Rattle.placing.specs.Lists.{total};
 ghost use Rattle.placing.specs.Axis.{autos};
-ghost use Rattle.placing.specs.MainAxis.{Line, line, Even, outer, outerAt, autoShare, justified, Spaced};
+ghost use Rattle.placing.specs.MainAxis.{Line, line, Even, outer, outerAt, freeSpace, autoShare, justified, Spaced};
 use crate::align::ContentAlignment;
 use crate::axis;
 
@@ -35,6 +35,24 @@ fn outer_sum<'a>(
         i += 1;
     }
     sum
+}
+
+// The inner size less the used space.
+fn free_space<'a>(
+    inner: f32,
+    gap: f32,
+    targets: &'a [f32],
+    start: &'a [f32],
+    end: &'a [f32],
+    auto_start: &'a [u32],
+    auto_end: &'a [u32],
+) -> f32
+    requires { ⌜ Even (line (now targets) (now start) (now end) (now «auto_start») (now «auto_end»)) ⌝ }
+    ensures { λ r. ⌜ r ≡ freeSpace inner gap (line (now (targets .entry)) (now (start .entry)) (now (end .entry)) (now («auto_start» .entry)) (now («auto_end» .entry))) ⌝ }
+{
+    let between = axis::sum_axis_gaps(grid::clean(gap), targets.len());
+    let taken = between + outer_sum(targets, start, end, auto_start, auto_end);
+    grid::clean(inner) - taken
 }
 
 // How many of one side's margins are auto.
@@ -99,13 +117,11 @@ pub fn distribute_remaining_free_space<'a>(
     requires { ⌜ (length (now targets) ≤ length (now offsets)) × (length (now targets) ≤ length (now «used_start»)) × (length (now targets) ≤ length (now «used_end»)) ⌝ }
     ensures { λ _. ⌜ Spaced inner gap justify reversed (line (now (targets .entry)) (now (start .entry)) (now (end .entry)) (now («auto_start» .entry)) (now («auto_end» .entry))) (now (offsets .entry)) (now («used_start» .entry)) (now («used_end» .entry)) (now (offsets .exit)) (now («used_start» .exit)) (now («used_end» .exit)) ⌝ }
 {
-    let n = targets.len();
-    let between = grid::clean(gap);
-    let taken = axis::sum_axis_gaps(between, n) + outer_sum(targets, start, end, auto_start, auto_end);
-    let free = grid::clean(inner) - taken;
+    let free = free_space(inner, gap, targets, start, end, auto_start, auto_end);
     let count = count_auto(auto_start) + count_auto(auto_end);
     let share = auto_share(free, count);
     axis::use_margins(share, auto_start, start, used_start);
     axis::use_margins(share, auto_end, end, used_end);
-    axis::align_along(justified_space(free, count), n, between, justify, reversed, offsets);
+    let left = justified_space(free, count);
+    axis::align_along(left, targets.len(), grid::clean(gap), justify, reversed, offsets);
 }

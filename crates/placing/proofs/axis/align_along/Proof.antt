@@ -1,49 +1,46 @@
+-- `placing::axis::align_along` meets its contract: the steps of the definition, one after the other. Assumes nothing.
+use mathlib.Core.Path.{_≡_, refl, sym, ap, ap₂, _∙_}
+use lib.Ieee.{Float}
+use denote.Ref.{now}
+use Rattle.grid.specs.Grid.{cleaned}
+use Rattle.placing.specs.declared.align.Resolved.{Resolved}
+use Rattle.placing.specs.Align.{firstOffset, laterOffset}
+use Rattle.placing.specs.Lists.{overwritten}
+use Rattle.placing.specs.Axis.{stepped, offsets}
+use Rattle.placing.proofs.Each.{written-no-cell}
 use borrow.Author.Needs.{needs}
 use Rattle.placing.proofs.axis.align_along.Statement.{statement}
 use Rattle.placing.proofs.axis.align_along.Tie as tie
-use Rattle.placing.proofs.axis.align_along.Reads as reads
-use Rattle.placing.proofs.axis.align_along.Lts as lts
-use Rattle.grid.proofs.clean.Reads as clean-reads
-use Rattle.placing.proofs.align.apply_alignment_fallback.Reads as apply-alignment-fallback-reads
-use Rattle.placing.proofs.align.first_offset.Reads as first-offset-reads
-use Rattle.placing.proofs.align.later_offset.Reads as later-offset-reads
-use Rattle.placing.proofs.axis.step_all.Reads as step-all-reads
 
--- src/axis.rt:74:9
 returns : tie.Need-returns
-returns c = ?
+returns c = written-no-cell _ (now (c .before .before .args .cells)) (c .if1 .taken)
 
--- src/axis.rt:76:9
 apply-alignment-fallback-requires : tie.Need-apply-alignment-fallback-requires
 apply-alignment-fallback-requires c κs = search needs
 
--- src/axis.rt:77:29
 first-offset-requires : tie.Need-first-offset-requires
 first-offset-requires c κs = search needs
 
--- src/axis.rt:77:9
 clean-requires : tie.Need-clean-requires
 clean-requires c κs = search needs
 
--- src/axis.rt:78:29
 later-offset-requires : tie.Need-later-offset-requires
 later-offset-requires c κs = search needs
 
--- src/axis.rt:78:9
 clean-requires-2 : tie.Need-clean-requires-2
 clean-requires-2 c κs = search needs
 
--- src/axis.rt:79:5
 step-all-requires : tie.Need-step-all-requires
 step-all-requires c κs = search needs
 
--- src/axis.rt:69:1
 same-length : tie.Need-same-length
 same-length c = search needs
 
--- src/axis.rt:69:1
 returns-2 : tie.Need-returns-2
-returns-2 c = ?
+unfolding offsets
+returns-2 c = c .before .before .step-all .ensures ∙ ap₂ (λ (x y : Float). overwritten (c .before .before .before .before .before .before .before .before .before .before .before .args .n) (stepped x y (c .before .before .before .before .before .before .before .before .before .before .before .args .reversed) (c .before .before .before .before .before .before .before .before .before .before .before .args .n)) (now (c .before .before .before .before .before .before .before .before .before .before .before .args .cells)))
+    (c .before .before .before .before .before .before .clean .ensures ∙ ap cleaned (c .before .before .before .before .before .before .before .first-offset .ensures ∙ ap (λ (u : Resolved). firstOffset (c .before .before .before .before .before .before .before .before .before .before .before .args .free) (c .before .before .before .before .before .before .before .before .before .before .before .args .n) (c .before .before .before .before .before .before .before .before .before .before .before .args .reversed) u) (c .before .before .before .before .before .before .before .before .apply-alignment-fallback .ensures)))
+    (c .before .before .before .before .clean2 .ensures ∙ ap cleaned (c .before .before .before .before .before .later-offset .ensures ∙ ap (λ (u : Resolved). laterOffset (c .before .before .before .before .before .before .before .before .before .before .before .args .free) (c .before .before .before .before .before .before .before .before .before .before .before .args .n) (c .before .before .before .before .before .before .before .before .before .before .before .args .gap) u) (c .before .before .before .before .before .before .before .before .apply-alignment-fallback .ensures)))
 
 pub align-along-spec : {M : Type 1} → statement M
 align-along-spec =
