@@ -12,6 +12,7 @@ use lib.Ieee.{Float}
 use Rattle.placing.specs.Align.{_⊕_, nought}
 use Rattle.placing.specs.Lists.{total, each, overwritten}
 use Rattle.placing.specs.Axis.{autos}
+use Rattle.placing.specs.CrossSize.{raised, largest}
 
 -- ---- a sum
 
@@ -22,6 +23,16 @@ total-none f = refl
 pub total-turn : (f : ℕ → Float) (n : ℕ) {s x : Float} → s ≡ total f n → x ≡ f n → s ⊕ x ≡ total f (n + 1)
 unfolding total
 total-turn f n p q = ap₂ (λ (a b : Float). a ⊕ b) p q ∙ ap (total f) (sym (add-one n))
+
+-- ---- a maximum
+
+pub largest-none : (f : ℕ → Float) → largest f 0 ≡ nought
+unfolding largest
+largest-none f = refl
+
+pub largest-turn : (f : ℕ → Float) (n : ℕ) {s x : Float} → s ≡ largest f n → x ≡ f n → raised s x ≡ largest f (n + 1)
+unfolding largest
+largest-turn f n p q = ap₂ (λ (a b : Float). raised a b) p q ∙ ap (largest f) (sym (add-one n))
 
 -- ---- a count
 

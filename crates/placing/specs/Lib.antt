@@ -2,3 +2,4 @@ pub mod Align
 pub mod Lists
 pub mod Axis
 pub mod MainAxis
+pub mod CrossSize

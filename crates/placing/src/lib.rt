@@ -2,3 +2,4 @@
 pub mod align; // align.rt: the alignment keywords, their fallback, and the offsets that they give
 pub mod axis; // axis.rt: what both axes share
 pub mod main_axis; // main_axis.rt: auto margins and offsets of one line
+pub mod cross_size; // cross_size.rt: the cross sizes of lines
