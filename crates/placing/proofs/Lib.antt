@@ -1,4 +1,5 @@
 pub mod Counts
 pub mod Each
 pub mod MainLaws
+pub mod LineLaws
 pub mod Spread

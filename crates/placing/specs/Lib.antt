@@ -3,3 +3,4 @@ pub mod Lists
 pub mod Axis
 pub mod MainAxis
 pub mod CrossSize
+pub mod Lines

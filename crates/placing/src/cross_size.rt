@@ -257,8 +257,8 @@ fn largest_outer<'a>(
     most
 }
 
-// The size of a single line whose items ask for x.
-fn single_line_size(c: Cross, x: f32) -> f32
+// The inner size where it is definite, else x clamped.
+pub fn inner_or(c: Cross, x: f32) -> f32
     ensures { λ r. ⌜ r ≡ orBounded c (innerSize c) x ⌝ }
 {
     match inner_size(c) {
@@ -273,7 +273,7 @@ fn line_size(c: Cross, x: f32) -> f32
 {
     let wrap = c.wrap;
     if is_single_line(wrap) {
-        return grid::clean(single_line_size(c, x));
+        return grid::clean(inner_or(c, x));
     }
     grid::clean(x)
 }

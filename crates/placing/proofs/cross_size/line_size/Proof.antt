@@ -11,15 +11,15 @@ use Rattle.placing.proofs.cross_size.line_size.Tie as tie
 is-single-line-requires : tie.Need-is-single-line-requires
 is-single-line-requires c κs = search needs
 
-single-line-size-requires : tie.Need-single-line-size-requires
-single-line-size-requires c κs = search needs
+inner-or-requires : tie.Need-inner-or-requires
+inner-or-requires c κs = search needs
 
 clean-requires : tie.Need-clean-requires
 clean-requires c κs = search needs
 
 returns : tie.Need-returns
 unfolding lineSize
-returns c = c .clean .ensures ∙ ap cleaned (c .before .single-line-size .ensures) ∙ ap (λ (b : Bool). cleaned (cond b (orBounded (c .before .before .before .before .args .c) (innerSize (c .before .before .before .before .args .c)) (c .before .before .before .before .args .x)) (c .before .before .before .before .args .x))) (sym (c .before .before .if1 .taken) ∙ c .before .before .before .is-single-line .ensures)
+returns c = c .clean .ensures ∙ ap cleaned (c .before .inner-or .ensures) ∙ ap (λ (b : Bool). cleaned (cond b (orBounded (c .before .before .before .before .args .c) (innerSize (c .before .before .before .before .args .c)) (c .before .before .before .before .args .x)) (c .before .before .before .before .args .x))) (sym (c .before .before .if1 .taken) ∙ c .before .before .before .is-single-line .ensures)
 
 clean-requires-2 : tie.Need-clean-requires-2
 clean-requires-2 c κs = search needs
@@ -33,7 +33,7 @@ line-size-spec =
     tie.close
     (tie.spec
     is-single-line-requires
-    single-line-size-requires
+    inner-or-requires
     clean-requires
     returns
     clean-requires-2
