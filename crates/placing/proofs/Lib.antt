@@ -2,4 +2,5 @@ pub mod Counts
 pub mod Each
 pub mod MainLaws
 pub mod LineLaws
+pub mod AcrossLaws
 pub mod Spread

@@ -4,3 +4,4 @@ pub mod Axis
 pub mod MainAxis
 pub mod CrossSize
 pub mod Lines
+pub mod CrossAxis

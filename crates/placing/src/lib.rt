@@ -4,3 +4,4 @@ pub mod axis; // axis.rt: what both axes share
 pub mod main_axis; // main_axis.rt: auto margins and offsets of one line
 pub mod cross_size; // cross_size.rt: the cross sizes of lines
 pub mod lines; // lines.rt: lines stretched and placed along the cross axis
+pub mod cross_axis; // cross_axis.rt: the items of one line across it
