@@ -19,10 +19,10 @@ autos-few auto h e = omega (arith, autos-within auto (length auto))
 
 module _ {inner gap : Float} {justify : ContentAlignment} {reversed : Bool} {l : Line} {free share left step : Float} {n : ℕ} {offsets₀ starts₀ ends₀ offsets₁ starts ends : List Float} where
   pub spaced : Even l → free ≡ freeSpace inner gap l → n ≡ autoCount l → share ≡ autoShare free n → left ≡ justified free n → step ≡ cleaned gap
-    → offsets₁ ≡ overwritten (count l) (offsets left (count l) step justify reversed) offsets₀
-    → starts ≡ overwritten (length (l .start)) (marginAt share (l .auto-start) (l .start)) starts₀
-    → ends ≡ overwritten (length (l .end)) (marginAt share (l .auto-end) (l .end)) ends₀
-    → Spaced inner gap justify reversed l offsets₀ starts₀ ends₀ offsets₁ starts ends
+      → offsets₁ ≡ overwritten (count l) (offsets left (count l) step justify reversed) offsets₀
+      → starts ≡ overwritten (length (l .start)) (marginAt share (l .auto-start) (l .start)) starts₀
+      → ends ≡ overwritten (length (l .end)) (marginAt share (l .auto-end) (l .end)) ends₀
+      → Spaced inner gap justify reversed l offsets₀ starts₀ ends₀ offsets₁ starts ends
   spaced e f m s j g o p q =
       let shared = s ∙ ap₂ autoShare f m in
       let left-is = j ∙ ap₂ justified f m in

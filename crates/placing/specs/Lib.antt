@@ -5,3 +5,5 @@ pub mod MainAxis
 pub mod CrossSize
 pub mod Lines
 pub mod CrossAxis
+pub mod Checks
+pub mod MainCall

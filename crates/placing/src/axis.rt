@@ -66,7 +66,14 @@ fn step_all(n: usize, reversed: bool, first: f32, later: f32, cells: &mut [f32])
 }
 
 // Items along a line, or lines along the cross axis, by a content alignment.
-pub fn align_along(free: f32, n: usize, gap: f32, alignment: ContentAlignment, reversed: bool, cells: &mut [f32])
+pub fn align_along(
+    free: f32,
+    n: usize,
+    gap: f32,
+    alignment: ContentAlignment,
+    reversed: bool,
+    cells: &mut [f32],
+)
     requires { ⌜ (n ≤ length (now cells)) × (n ≤ 1024) ⌝ }
     ensures { λ _. ⌜ now (cells .exit) ≡ overwritten n (offsets free n gap alignment reversed) (now (cells .entry)) ⌝ }
 {

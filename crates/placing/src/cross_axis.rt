@@ -94,7 +94,13 @@ fn cross_offset(free: f32, reversed: bool, it: CrossItem, alignment: SelfAlignme
     align::align_item(free, reversed, alignment)
 }
 
-fn place_item(line: f32, reversed: bool, it: CrossItem, alignment: SelfAlignment, auto_size: bool) -> CrossPlace
+fn place_item(
+    line: f32,
+    reversed: bool,
+    it: CrossItem,
+    alignment: SelfAlignment,
+    auto_size: bool,
+) -> CrossPlace
     ensures { λ r. ⌜ r ≡ placedItem line reversed it alignment «auto_size» ⌝ }
 {
     let size = used_cross_size(line, it, is_stretched(it, alignment, auto_size));
@@ -134,9 +140,26 @@ pub fn place_items<'a>(
     let height = grid::clean(line);
     let mut i = 0;
     while i < measured.len() {
-        let it = cross_size::item_at(measured, minimum, maximum, capped, edges, start, end, auto_start, auto_end, i);
+        let it = cross_size::item_at(
+            measured,
+            minimum,
+            maximum,
+            capped,
+            edges,
+            start,
+            end,
+            auto_start,
+            auto_end,
+            i,
+        );
         let sizing = auto_size[i];
-        let p = place_item(height, reversed, it, align::self_of(alignment[i]), sizing != 0);
+        let p = place_item(
+            height,
+            reversed,
+            it,
+            align::self_of(alignment[i]),
+            sizing != 0,
+        );
         sizes[i] = p.size;
         used_start[i] = p.start;
         used_end[i] = p.end;

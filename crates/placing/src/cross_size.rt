@@ -250,7 +250,18 @@ fn largest_outer<'a>(
     let mut most = 0.0;
     let mut i = 0;
     while i < measured.len() {
-        let it = item_at(measured, minimum, maximum, capped, edges, start, end, auto_start, auto_end, i);
+        let it = item_at(
+            measured,
+            minimum,
+            maximum,
+            capped,
+            edges,
+            start,
+            end,
+            auto_start,
+            auto_end,
+            i,
+        );
         most = raise(most, outer_cross_size(it));
         i += 1;
     }
@@ -294,6 +305,16 @@ pub fn calculate_cross_size<'a>(
     requires { ⌜ Even (items (now measured) (now minimum) (now maximum) (now capped) (now edges) (now start) (now end) (now «auto_start») (now «auto_end»)) ⌝ }
     ensures { λ r. ⌜ r ≡ lineOf c (items (now (measured .entry)) (now (minimum .entry)) (now (maximum .entry)) (now (capped .entry)) (now (edges .entry)) (now (start .entry)) (now (end .entry)) (now («auto_start» .entry)) (now («auto_end» .entry))) ⌝ }
 {
-    let most = largest_outer(measured, minimum, maximum, capped, edges, start, end, auto_start, auto_end);
+    let most = largest_outer(
+        measured,
+        minimum,
+        maximum,
+        capped,
+        edges,
+        start,
+        end,
+        auto_start,
+        auto_end,
+    );
     line_size(read_cross(c), most)
 }

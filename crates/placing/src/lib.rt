@@ -5,3 +5,5 @@ pub mod main_axis; // main_axis.rt: auto margins and offsets of one line
 pub mod cross_size; // cross_size.rt: the cross sizes of lines
 pub mod lines; // lines.rt: lines stretched and placed along the cross axis
 pub mod cross_axis; // cross_axis.rt: the items of one line across it
+mod checks; // checks.rt: the checks of the calls
+pub mod main_call; // main_call.rt: the call for the main axis of one line

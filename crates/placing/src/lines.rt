@@ -4,10 +4,12 @@ ghost use Prim.Native.Nat.{_≤_};
 ghost use lib.ListN.{length};
 ghost use Rattle.placing.specs.Lists.{total, overwritten};
 ghost use Rattle.placing.specs.Lines.{stretches, stretchTarget, gainTo, gain, grown, grownAt, Aligned};
-use crate::align::{ContentAlignment, Distribution};
+use crate::align::ContentAlignment;
+use crate::align::Distribution;
 use crate::axis;
 use crate::cross_size;
-use crate::cross_size::{Bound, Cross};
+use crate::cross_size::Bound;
+use crate::cross_size::Cross;
 
 fn is_stretch(alignment: ContentAlignment) -> bool
     ensures { λ r. ⌜ r ≡ stretches alignment ⌝ }
@@ -92,7 +94,13 @@ fn stretch_lines(more: f32, lines: &[f32], sizes: &mut [f32])
 }
 
 // Stretches and places the accepted lines, and gives the container's inner cross size. No entry point: there is room.
-pub fn align_lines(c: Cross, alignment: ContentAlignment, lines: &[f32], sizes: &mut [f32], offsets: &mut [f32]) -> f32
+pub fn align_lines(
+    c: Cross,
+    alignment: ContentAlignment,
+    lines: &[f32],
+    sizes: &mut [f32],
+    offsets: &mut [f32],
+) -> f32
     requires { ⌜ (length (now lines) ≤ length (now sizes)) × (length (now lines) ≤ length (now offsets)) × (length (now lines) ≤ 1024) ⌝ }
     ensures { λ r. ⌜ Aligned c alignment (now (lines .entry)) (now (sizes .entry)) (now (offsets .entry)) r (now (sizes .exit)) (now (offsets .exit)) ⌝ }
 {
@@ -105,6 +113,13 @@ pub fn align_lines(c: Cross, alignment: ContentAlignment, lines: &[f32], sizes: 
     let sum = sum_lines(more, lines);
     let size = cross_size::inner_or(cross, sum + gaps);
     let free = size - sum - gaps;
-    axis::align_along(free, n, cross.gap, alignment, cross_size::is_reversed(wrap), offsets);
+    axis::align_along(
+        free,
+        n,
+        cross.gap,
+        alignment,
+        cross_size::is_reversed(wrap),
+        offsets,
+    );
     grid::clean(size)
 }

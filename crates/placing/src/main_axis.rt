@@ -123,5 +123,12 @@ pub fn distribute_remaining_free_space<'a>(
     axis::use_margins(share, auto_start, start, used_start);
     axis::use_margins(share, auto_end, end, used_end);
     let left = justified_space(free, count);
-    axis::align_along(left, targets.len(), grid::clean(gap), justify, reversed, offsets);
+    axis::align_along(
+        left,
+        targets.len(),
+        grid::clean(gap),
+        justify,
+        reversed,
+        offsets,
+    );
 }
