@@ -5,4 +5,6 @@ pub mod LineLaws
 pub mod AcrossLaws
 pub mod Marked
 pub mod MainCalled
+pub mod LineCalled
+pub mod Stretched
 pub mod Spread

@@ -7,3 +7,4 @@ pub mod Lines
 pub mod CrossAxis
 pub mod Checks
 pub mod MainCall
+pub mod LineCall

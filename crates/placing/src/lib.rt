@@ -7,3 +7,4 @@ pub mod lines; // lines.rt: lines stretched and placed along the cross axis
 pub mod cross_axis; // cross_axis.rt: the items of one line across it
 mod checks; // checks.rt: the checks of the calls
 pub mod main_call; // main_call.rt: the call for the main axis of one line
+pub mod line_call; // line_call.rt: the call for a container's lines
