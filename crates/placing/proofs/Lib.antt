@@ -1,0 +1,10 @@
+pub mod Counts
+pub mod Each
+pub mod MainLaws
+pub mod LineLaws
+pub mod AcrossLaws
+pub mod Marked
+pub mod MainCalled
+pub mod LineCalled
+pub mod Stretched
+pub mod Spread

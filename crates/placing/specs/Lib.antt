@@ -1,0 +1,10 @@
+pub mod Align
+pub mod Lists
+pub mod Axis
+pub mod MainAxis
+pub mod CrossSize
+pub mod Lines
+pub mod CrossAxis
+pub mod Checks
+pub mod MainCall
+pub mod LineCall
