@@ -10,7 +10,11 @@ ghost use Rattle.refusal.specs.Marks.{leastOf};
 ghost use Rattle.breaking.specs.Limit.{lowered, raised, raisedTo, numberOr, underMaximum, withoutMaximum, byMaximum, breakLimit, spaceNumbers, boundNumbers, limitCall};
 ghost use Rattle.breaking.specs.Breaking.{limitOf, fits, greedy};
 ghost use Rattle.breaking.specs.Calls.{breakingVerdict, Breakable, LineEnd, units, written, broken, greedyCall};
-use refusal::{Answer, Kind, Mark, Refusal, Verdict};
+use refusal::Answer;
+use refusal::Kind;
+use refusal::Mark;
+use refusal::Refusal;
+use refusal::Verdict;
 
 // The space that a line may take.
 pub enum AvailableSpace {
@@ -75,7 +79,11 @@ fn under_maximum(q: Query, maximum: f32) -> f32
     ensures { λ r. ⌜ r ≡ underMaximum q maximum ⌝ }
 {
     let x = number_or(q.available, maximum);
-    if q.main_is_definite { x } else { lower(x, maximum) }
+    if q.main_is_definite {
+        x
+    } else {
+        lower(x, maximum)
+    }
 }
 
 fn without_maximum(q: Query, available: AvailableSpace) -> AvailableSpace
@@ -105,7 +113,10 @@ fn limit_of(q: Query) -> AvailableSpace
     let maximum = q.maximum;
     match maximum {
         Bound::Absent => without_maximum(q, q.available),
-        Bound::Given(high) => AvailableSpace::Definite(grid::clean(raise_to(q.minimum, under_maximum(q, high)))),
+        Bound::Given(high) => AvailableSpace::Definite(grid::clean(raise_to(
+            q.minimum,
+            under_maximum(q, high),
+        ))),
     }
 }
 
@@ -152,7 +163,13 @@ pub fn line_fits(limit: AvailableSpace, size: f32) -> bool
 }
 
 // Checks 1 to 6 of a breaking call. `codes` is the mark of codes that were taken before the limit.
-pub fn check_breaking(codes: Mark, limit: AvailableSpace, gap: f32, sizes: &[f32], room: bool) -> Verdict
+pub fn check_breaking(
+    codes: Mark,
+    limit: AvailableSpace,
+    gap: f32,
+    sizes: &[f32],
+    room: bool,
+) -> Verdict
     ensures { λ r. ⌜ ((cs : List Number) → codes .0 ≡ leastOf cs 0 → r ≡ breakingVerdict cs limit gap (now (sizes .entry)) room) ⌝ }
 {
     let shape = refusal::check_shape(sizes.len(), room);
@@ -212,7 +229,13 @@ fn greedy_counts(sizes: &[f32], gap: f32, limit: AvailableSpace, counts: &mut [u
 pub fn greedy(limit: AvailableSpace, gap: f32, sizes: &[f32], counts: &mut [u32]) -> Answer
     ensures { λ r. ⌜ broken r (now (counts .exit)) ≡ greedyCall limit gap (now (sizes .entry)) (now (counts .entry)) ⌝ }
 {
-    let v = check_breaking(refusal::no_mark(), limit, gap, sizes, sizes.len() <= counts.len());
+    let v = check_breaking(
+        refusal::no_mark(),
+        limit,
+        gap,
+        sizes,
+        sizes.len() <= counts.len(),
+    );
     match v {
         Verdict::Refused(why) => Answer::Refused(why),
         Verdict::Passed => {

@@ -73,7 +73,11 @@ fn in_range(kind: Kind, x: f32) -> bool
         Kind::Margin => if x <= 131072.0 { x >= -131072.0 } else { false },
         Kind::Size => if x <= 262144.0 { x >= 0.0 } else { false },
         Kind::Factor => if x <= 1024.0 { x >= 0.0 } else { false },
-        Kind::Worked => if x <= 16777216.0 { x >= -16777216.0 } else { false },
+        Kind::Worked => if x <= 16777216.0 {
+            x >= -16777216.0
+        } else {
+            false
+        },
     }
 }
 
@@ -97,7 +101,11 @@ pub fn mark_float(kind: Kind, x: f32, place: u32) -> Mark
             return Mark(2048 + place);
         }
     }
-    if in_range(kind, x) { Mark(6144) } else { Mark(4096 + place) }
+    if in_range(kind, x) {
+        Mark(6144)
+    } else {
+        Mark(4096 + place)
+    }
 }
 
 // The mark of a code, which is one of 0 to `most`.
@@ -105,7 +113,11 @@ pub fn mark_code(most: u32, c: u32, place: u32) -> Mark
     requires { ⌜ place ≤ 1024 ⌝ }
     ensures { λ r. ⌜ r .0 ≡ mark (code most c) place ⌝ }
 {
-    if most < c { Mark(4096 + place) } else { Mark(6144) }
+    if most < c {
+        Mark(4096 + place)
+    } else {
+        Mark(6144)
+    }
 }
 
 // The one that comes first.
@@ -149,7 +161,11 @@ pub fn judge(m: Mark) -> Verdict
 fn place_of(n: u32) -> Place
     ensures { λ r. ⌜ r ≡ placeOf n ⌝ }
 {
-    if n == 0 { Place::Container } else { Place::At(n - 1) }
+    if n == 0 {
+        Place::Container
+    } else {
+        Place::At(n - 1)
+    }
 }
 
 // Checks 1 and 2: `longest` is the length of the longest input list, and `room` says that the lists are of one length and that there is room.
@@ -159,7 +175,11 @@ pub fn check_shape(longest: usize, room: bool) -> Verdict
     if 1024 < longest {
         return Verdict::Refused(Refusal::TooManyItems);
     }
-    if room { Verdict::Passed } else { Verdict::Refused(Refusal::TooLittleRoom) }
+    if room {
+        Verdict::Passed
+    } else {
+        Verdict::Refused(Refusal::TooLittleRoom)
+    }
 }
 
 // One item more in the sum of check 6: the magnitude of its outer main size, and a gap.
