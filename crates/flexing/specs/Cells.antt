@@ -29,8 +29,8 @@ itemIn t i = record {
   edges = getD t (3072 + i) nan;
   grow = getD t (4096 + i) nan;
   shrink = getD t (5120 + i) nan;
-  margin-start = getD t (6144 + i) nan;
-  margin-end = getD t (7168 + i) nan;
+  start = getD t (6144 + i) nan;
+  end = getD t (7168 + i) nan;
 }
 
 -- the items of a line: n of them, the first at `from`
@@ -93,8 +93,8 @@ pub record Measured (it : Item) : Type 0 where
   pub minimum : Length (it .minimum)
   pub maximum : (it .maximum ≡ inf false) ⊎ Length (it .maximum)
   pub edges : Length (it .edges)
-  pub margin-start : Margin (it .margin-start)
-  pub margin-end : Margin (it .margin-end)
+  pub start : Margin (it .start)
+  pub end : Margin (it .end)
 
 abbrev pub Every : (Item → Type 0) → List Item → Type 0
 Every P [] = Unit {0}

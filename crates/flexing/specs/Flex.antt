@@ -71,7 +71,7 @@ innerBase it = raised (it .base ⊖ it .edges) nought
 
 -- "each size + (start margin + end margin)"
 abbrev pub outer : Item → Float → Float
-outer it size = size ⊕ (it .margin-start ⊕ it .margin-end)
+outer it size = size ⊕ (it .start ⊕ it .end)
 
 -- the item's flex factor; and what it weighs in the sharing out, "shrinking with inner base × shrink as factor"
 abbrev pub factor : Bool → Item → Float
@@ -83,7 +83,7 @@ weight growing it = cond growing (it .grow) (innerBase it ⊗ it .shrink)
 -- ---- "free space before flexing, signed, in whole sixty-fourths: inner main size less hypothetical outer sizes and gaps"
 
 abbrev pub outerUnits : Item → ℤ
-outerUnits it = sixtyFourths (hypothetical it) +ℤ (sixtyFourths (it .margin-start) +ℤ sixtyFourths (it .margin-end))
+outerUnits it = sixtyFourths (hypothetical it) +ℤ (sixtyFourths (it .start) +ℤ sixtyFourths (it .end))
 
 unfoldable pub sumUnits : List Item → ℤ
 sumUnits [] = pos 0
@@ -118,8 +118,8 @@ inflexible growing it = eq (factor growing it) nought || cond growing (lt (hypot
 abbrev pub first : Bool → Item → Cell
 first growing it = record { item = it; frozen = inflexible growing it; target = hypothetical it }
 
-abbrev pub start : Float → Float → List Item → List Cell
-start inner gap items = map (first (grows inner gap items)) items
+abbrev pub begun : Float → Float → List Item → List Cell
+begun inner gap items = map (first (grows inner gap items)) items
 
 -- ---- step 3, initial free space; and step 4b, remaining free space
 
@@ -138,7 +138,7 @@ remaining inner gap cells = inner ⊖ (gaps gap (length cells) ⊕ total taken c
 
 -- what the rounds of a line go by
 abbrev pub lineOf : Float → Float → List Item → Line
-lineOf inner gap items = record { inner = inner; gap = gap; initial = remaining inner gap (start inner gap items); growing = grows inner gap items }
+lineOf inner gap items = record { inner = inner; gap = gap; initial = remaining inner gap (begun inner gap items); growing = grows inner gap items }
 
 -- ---- step 4a, the items that are not frozen, and how many
 
@@ -200,11 +200,11 @@ pub record Runs (ln : Line) (cells : List Cell) (n : ℕ) : Type 0 where
 -- ---- step 5, the used sizes: "an answer that would be -0.0 is 0.0"
 
 abbrev pub targets : Float → Float → List Item → ℕ → List Float
-targets inner gap items n = map (λ c. cleaned (c .target)) (after (lineOf inner gap items) n (start inner gap items))
+targets inner gap items n = map (λ c. cleaned (c .target)) (after (lineOf inner gap items) n (begun inner gap items))
 
 -- what flexing a line gives: free space, rounds, and in the first cells the targets; the cells past those are as they were
 pub record Flexed (inner gap : Float) (items : List Item) (free : ℤ) (rounds : ℕ) (old new : List Float) : Type 0 where
   pub space : free ≡ freeBefore inner gap items
-  pub number : Runs (lineOf inner gap items) (start inner gap items) rounds
+  pub number : Runs (lineOf inner gap items) (begun inner gap items) rounds
   pub few : rounds ≤ length items
   pub cells : new ≡ targets inner gap items rounds ++ drop (length items) old

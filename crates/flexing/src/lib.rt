@@ -1,7 +1,7 @@
 // Flexible lengths, CSS-FLEX 9.7 (document 01, "Flexible lengths"): the free space of a line is shared out over its items.
-mod item;
-mod line;
-mod round;
+mod flex;
+mod rounds;
+mod sizes;
 mod table;
 
 // An item as it is read: no number is -0.0, an auto margin is 0, and an absent maximum is infinite.
@@ -13,8 +13,8 @@ pub struct Item {
     pub edges: f32,
     pub grow: f32,
     pub shrink: f32,
-    pub margin_start: f32,
-    pub margin_end: f32,
+    pub start: f32,
+    pub end: f32,
 }
 
 // What the rounds of a line go by: its inner size, gap and initial free space, and whether it grows.

@@ -15,7 +15,7 @@ pub fn pick(table: &[f32; 8192], i: usize) -> Item
         edges: table[3072 + i],
         grow: table[4096 + i],
         shrink: table[5120 + i],
-        margin_start: table[6144 + i],
-        margin_end: table[7168 + i],
+        start: table[6144 + i],
+        end: table[7168 + i],
     }
 }

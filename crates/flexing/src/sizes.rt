@@ -43,7 +43,7 @@ fn inner_base(it: Item) -> f32
 pub fn outer_size(it: Item, size: f32) -> f32
     ensures { λ r. ⌜ r ≡ outer it size ⌝ }
 {
-    size + (it.margin_start + it.margin_end)
+    size + (it.start + it.end)
 }
 
 pub fn factor_of(it: Item, growing: bool) -> f32

@@ -6,7 +6,7 @@ ghost use lib.ListN.{length};
 ghost use lib.Ieee.{Float};
 ghost use Rattle.flexing.specs.Flex.{gaps, total, left, violation, settle, round};
 ghost use Rattle.flexing.specs.Cells.{cellsOf, Room, Rewritten, Added, Summed};
-use crate::item::{clamped, factor_of, flexed_size, is_frozen, limit, outer_size, violation_of, weight_of};
+use crate::sizes::{clamped, factor_of, flexed_size, is_frozen, limit, outer_size, violation_of, weight_of};
 use crate::table::pick;
 use crate::{Item, Line, Share, Sums};
 

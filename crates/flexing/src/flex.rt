@@ -9,8 +9,8 @@ ghost use lib.Ieee.{Float, nan};
 ghost use Rattle.grid.specs.Grid.{cleaned};
 ghost use Rattle.flexing.specs.Flex.{total, outer, hypothetical, unfrozen, first, freeBefore, Flexed};
 ghost use Rattle.flexing.specs.Cells.{itemsIn, cellsOf, Kept, Room, Rewritten, Ran, Accepted};
-use crate::item::{hypothetical_size, is_inflexible, outer_size};
-use crate::round::{gaps_of, one_round, sum_up};
+use crate::sizes::{hypothetical_size, is_inflexible, outer_size};
+use crate::rounds::{gaps_of, one_round, sum_up};
 use crate::table::pick;
 use crate::Line;
 
@@ -112,7 +112,7 @@ pub struct Flexing {
 }
 
 // Flexes the n items at `from`, which the checks have accepted. What it asks is what they show.
-pub fn flex(table: &[f32; 8192], from: usize, n: usize, inner: f32, gap: f32, targets: &mut [f32]) -> Flexing
+pub fn flex_items(table: &[f32; 8192], from: usize, n: usize, inner: f32, gap: f32, targets: &mut [f32]) -> Flexing
     requires { ⌜ Room from n (now targets) × Accepted inner gap (itemsIn (now table) from n) ⌝ }
     ensures { λ r. ⌜ Flexed inner gap (itemsIn (now (table .entry)) from n) (r .free .0) (r .rounds) (now (targets .entry)) (now (targets .exit)) ⌝ }
 {
