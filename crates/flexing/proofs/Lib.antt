@@ -1,0 +1,4 @@
+pub mod Each
+pub mod Signs
+pub mod Falls
+pub mod Round
