@@ -54,19 +54,22 @@ cellsOf t from n frozen targets = each n (cellAt t from frozen targets)
 abbrev pub Kept : ℕ → List Float → List Float → Type 0
 Kept n old new = (k : ℕ) → n ≤ k → getD new k nan ≡ getD old k nan
 
--- the line is in the table, and has room in the targets
-abbrev pub Room : ℕ → ℕ → List Float → Type 0
-Room from n targets = (from + n ≤ 1024) × (n ≤ length targets)
+-- the line is in the table, and has room in the marks and the targets
+pub record Room (from n : ℕ) (frozen : List Bool) (targets : List Float) : Type 0 where
+  pub inside : from + n ≤ 1024
+  pub marks : n ≤ length frozen
+  pub room : n ≤ length targets
 
 -- the marks and targets after a call are the given cells, and the targets past them as before
-pub record Rewritten (t : List Float) (from n : ℕ) (cells : List Cell) (targets₀ : List Float) (frozen : List Bool) (targets : List Float) : Type 0 where
+pub record Rewritten (t : List Float) (from n : ℕ) (cells : List Cell) (frozen₀ : List Bool) (targets₀ : List Float) (frozen : List Bool) (targets : List Float) : Type 0 where
   pub cells-are : cellsOf t from n frozen targets ≡ cells
+  pub marks-long : length frozen ≡ length frozen₀
   pub kept : Kept n targets₀ targets
 
 -- all rounds, from the marks and targets before a call
 pub record Ran (t : List Float) (from n : ℕ) (ln : Line) (rounds : ℕ) (frozen₀ : List Bool) (targets₀ : List Float) (frozen : List Bool) (targets : List Float) : Type 0 where
   pub number : Runs ln (cellsOf t from n frozen₀ targets₀) rounds
-  pub written : Rewritten t from n (after ln rounds (cellsOf t from n frozen₀ targets₀)) targets₀ frozen targets
+  pub written : Rewritten t from n (after ln rounds (cellsOf t from n frozen₀ targets₀)) frozen₀ targets₀ frozen targets
 
 -- ---- the sums of a round
 

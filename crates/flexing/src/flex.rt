@@ -49,8 +49,8 @@ fn is_growing(free: grid::Sixtyfourths) -> bool
 
 // Step 2: freezes the inflexible items; every target is the hypothetical size.
 fn begin(table: &[f32; 8192], from: usize, n: usize, growing: bool, frozen: &mut [bool; 1024], targets: &mut [f32])
-    requires { ⌜ Room from n (now targets) ⌝ }
-    ensures { λ _. ⌜ Rewritten (now (table .entry)) from n (map (first growing) (itemsIn (now (table .entry)) from n)) (now (targets .entry)) (now (frozen .exit)) (now (targets .exit)) ⌝ }
+    requires { ⌜ Room from n (now frozen) (now targets) ⌝ }
+    ensures { λ _. ⌜ Rewritten (now (table .entry)) from n (map (first growing) (itemsIn (now (table .entry)) from n)) (now (frozen .entry)) (now (targets .entry)) (now (frozen .exit)) (now (targets .exit)) ⌝ }
 {
     let mut i = 0;
     while i < n {
@@ -81,7 +81,7 @@ fn count_left(frozen: &[bool; 1024], n: usize) -> usize
 
 // Step 4: the rounds, counted. Each freezes an item, so that there are no more of them than items.
 fn run_rounds(table: &[f32; 8192], from: usize, n: usize, ln: Line, frozen: &mut [bool; 1024], targets: &mut [f32]) -> u32
-    requires { ⌜ Room from n (now targets) ⌝ }
+    requires { ⌜ Room from n (now frozen) (now targets) ⌝ }
     ensures { λ r. ⌜ Ran (now (table .entry)) from n ln r (now (frozen .entry)) (now (targets .entry)) (now (frozen .exit)) (now (targets .exit)) ⌝ }
 {
     let mut rounds = 0;
@@ -113,7 +113,7 @@ pub struct Flexing {
 
 // Flexes the n items at `from`, which the checks have accepted. What it asks is what they show.
 pub fn flex_items(table: &[f32; 8192], from: usize, n: usize, inner: f32, gap: f32, targets: &mut [f32]) -> Flexing
-    requires { ⌜ Room from n (now targets) × Accepted inner gap (itemsIn (now table) from n) ⌝ }
+    requires { ⌜ (from + n ≤ 1024) × (n ≤ length (now targets)) × Accepted inner gap (itemsIn (now table) from n) ⌝ }
     ensures { λ r. ⌜ Flexed inner gap (itemsIn (now (table .entry)) from n) (r .free .0) (r .rounds) (now (targets .entry)) (now (targets .exit)) ⌝ }
 {
     let free = free_before(table, from, n, inner, gap);

@@ -38,7 +38,7 @@ fn add_up(s: Sums, it: Item, growing: bool, frozen: bool, target: f32) -> Sums
 }
 
 pub fn sum_up(table: &[f32; 8192], from: usize, n: usize, growing: bool, frozen: &[bool; 1024], targets: &[f32]) -> Sums
-    requires { ⌜ Room from n (now targets) ⌝ }
+    requires { ⌜ (from + n ≤ 1024) × (n ≤ length (now targets)) ⌝ }
     ensures { λ r. ⌜ Summed growing (cellsOf (now (table .entry)) from n (now (frozen .entry)) (now (targets .entry))) r ⌝ }
 {
     let mut s = Sums {
@@ -76,8 +76,8 @@ fn violations(table: &[f32; 8192], from: usize, n: usize, sh: Share, frozen: &[b
 
 // Gives each unfrozen item its clamped size, and freezes it or not, by the total of the violations.
 fn settle_all(table: &[f32; 8192], from: usize, n: usize, sh: Share, sum: f32, frozen: &mut [bool; 1024], targets: &mut [f32])
-    requires { ⌜ Room from n (now targets) ⌝ }
-    ensures { λ _. ⌜ Rewritten (now (table .entry)) from n (map (settle sh sum) (cellsOf (now (table .entry)) from n (now (frozen .entry)) (now (targets .entry)))) (now (targets .entry)) (now (frozen .exit)) (now (targets .exit)) ⌝ }
+    requires { ⌜ Room from n (now frozen) (now targets) ⌝ }
+    ensures { λ _. ⌜ Rewritten (now (table .entry)) from n (map (settle sh sum) (cellsOf (now (table .entry)) from n (now (frozen .entry)) (now (targets .entry)))) (now (frozen .entry)) (now (targets .entry)) (now (frozen .exit)) (now (targets .exit)) ⌝ }
 {
     let mut i = 0;
     while i < n {
@@ -93,8 +93,8 @@ fn settle_all(table: &[f32; 8192], from: usize, n: usize, sh: Share, sum: f32, f
 }
 
 pub fn one_round(table: &[f32; 8192], from: usize, n: usize, ln: Line, frozen: &mut [bool; 1024], targets: &mut [f32])
-    requires { ⌜ Room from n (now targets) ⌝ }
-    ensures { λ _. ⌜ Rewritten (now (table .entry)) from n (round ln (cellsOf (now (table .entry)) from n (now (frozen .entry)) (now (targets .entry)))) (now (targets .entry)) (now (frozen .exit)) (now (targets .exit)) ⌝ }
+    requires { ⌜ Room from n (now frozen) (now targets) ⌝ }
+    ensures { λ _. ⌜ Rewritten (now (table .entry)) from n (round ln (cellsOf (now (table .entry)) from n (now (frozen .entry)) (now (targets .entry)))) (now (frozen .entry)) (now (targets .entry)) (now (frozen .exit)) (now (targets .exit)) ⌝ }
 {
     let s = sum_up(table, from, n, ln.growing, frozen, targets);
     let space = ln.inner - (gaps_of(ln.gap, n) + s.outer);
