@@ -10,6 +10,8 @@ ghost use Rattle.grid.specs.Grid.{Length, sixtyFourths};
 ghost use Rattle.refusal.specs.Domain.{gridded, offGrid, inRange, float, code, shape, summed, asAnswer};
 ghost use Rattle.refusal.specs.Marks.{mark, leastUpTo, judged, placeOf, sumUpTo, Lengths};
 
+pub mod optional;
+
 // What a number is, and so which grid and range it is held to.
 pub enum Kind {
     // A size handed to breaking, or a definite limit: on the grid, at most 262,144 px either way.
