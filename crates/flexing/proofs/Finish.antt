@@ -14,7 +14,8 @@ use Rattle.flexing.specs.declared.Line.{Line}
 use Rattle.flexing.specs.declared.Sums.{Sums}
 use Rattle.flexing.specs.Flex.{Cell, first, gaps, remaining, after, Runs, freeBefore, grows, begun, lineOf, targets, Flexed, _⊕_, _⊖_}
 use Rattle.grid.specs.Grid.{cleaned}
-use Rattle.flexing.specs.Cells.{each, itemIn, itemsIn, cellAt, cellsOf, Kept, Rewritten, Ran, Summed}
+use Rattle.flexing.specs.Call.{each}
+use Rattle.flexing.specs.Cells.{itemIn, itemsIn, cellAt, cellsOf, Kept, Rewritten, Ran, Summed}
 use Rattle.flexing.proofs.Each.{length-each, map-each}
 use Rattle.flexing.proofs.Round.{remaining-is}
 use Rattle.flexing.proofs.Falls.{rounds-few}
