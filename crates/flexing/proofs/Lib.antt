@@ -6,3 +6,4 @@ pub mod Units
 pub mod Loop
 pub mod Finish
 pub mod Determined
+pub mod Columns
