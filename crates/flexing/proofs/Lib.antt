@@ -7,3 +7,5 @@ pub mod Loop
 pub mod Finish
 pub mod Determined
 pub mod Columns
+pub mod Marked
+pub mod Accept

@@ -180,3 +180,35 @@ subtracted a b x y ea eb p q =
     let e : bits a -ℤ bits b ≡ x -ℤ y = ap₂ (λ (m n : ℤ). m -ℤ n) (ap bits ea ∙ back32 x p) (ap bits eb ∙ back32 y q) in
     let s : SFits w32 (x -ℤ y) = record { sfits = mag-small (x -ℤ y) (abs-sub x y p q) } in
     (subst (λ (z : ℤ). SFits w32 z) (sym e) s, ap bits e ∙ toZ-ofZ w32 (x -ℤ y) s)
+
+-- ---- an outer size, in an i32
+
+pub outer-small : (it : Item) → Measured it → natAbs (outerUnits it) ≤ 33554432
+outer-small it m =
+    let a = sixtyFourths (hypothetical it) in
+    let b = sixtyFourths (it .start) +ℤ sixtyFourths (it .end) in
+    sum (natAbs (a +ℤ b)) (natAbs a) (natAbs b) (abs-add a b) (first-length it m .small) (two (sixtyFourths (it .start)) (sixtyFourths (it .end)) (m .start .small) (m .end .small))
+  where
+    sum : (x a b : ℕ) → x ≤ a + b → a ≤ 16777216 → b ≤ 2 ^ 24 → x ≤ 33554432
+    sum x a b p q r = plain x a b p q (le-trans {m = 2 ^ 24} r (lit≤ tt))
+      where
+        plain : (x a b : ℕ) → x ≤ a + b → a ≤ 16777216 → b ≤ 16777216 → x ≤ 33554432
+        plain x a b p q r = omega arith
+
+pub margins-added : (it : Item) → Measured it → (b c : ℤ) → b ≡ sixtyFourths (it .start) → c ≡ sixtyFourths (it .end)
+    → SFits w32 (bits b +ℤ bits c) × (bits (bits b +ℤ bits c) ≡ sixtyFourths (it .start) +ℤ sixtyFourths (it .end))
+margins-added it m b c eb ec =
+    let y = sixtyFourths (it .start) in
+    let z = sixtyFourths (it .end) in
+    let e : bits b +ℤ bits c ≡ y +ℤ z = ap₂ (λ (m n : ℤ). m +ℤ n) (ap bits eb ∙ back32 y (m .start .length .small)) (ap bits ec ∙ back32 z (m .end .length .small)) in
+    let s : SFits w32 (y +ℤ z) = record { sfits = mag-small (y +ℤ z) (le-trans {m = 2 ^ 24} (two y z (m .start .small) (m .end .small)) (lit≤ tt)) } in
+    (subst (λ (z : ℤ). SFits w32 z) (sym e) s, ap bits e ∙ toZ-ofZ w32 (y +ℤ z) s)
+
+pub outer-added : (it : Item) → Measured it → (a b c : ℤ) → a ≡ sixtyFourths (hypothetical it) → b ≡ sixtyFourths (it .start) → c ≡ sixtyFourths (it .end)
+    → SFits w32 (bits a +ℤ bits (bits b +ℤ bits c)) × (bits (bits a +ℤ bits (bits b +ℤ bits c)) ≡ outerUnits it)
+outer-added it m a b c ea eb ec =
+    let x = sixtyFourths (hypothetical it) in
+    let p = margins-added it m b c eb ec in
+    let e : bits a +ℤ bits (bits b +ℤ bits c) ≡ outerUnits it = ap₂ (λ (m n : ℤ). m +ℤ n) (ap bits ea ∙ back32 x (first-length it m .small)) (p .1) in
+    let s : SFits w32 (outerUnits it) = record { sfits = mag-small (outerUnits it) (outer-small it m) } in
+    (subst (λ (z : ℤ). SFits w32 z) (sym e) s, ap bits e ∙ toZ-ofZ w32 (outerUnits it) s)

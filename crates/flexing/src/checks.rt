@@ -52,9 +52,11 @@ fn mark_plain<'a>(
     requires { ⌜ (length (now base) ≤ 1024) × (length (now minimum) ≡ length (now base)) × (length (now edges) ≡ length (now base)) × (length (now grow) ≡ length (now base)) × (length (now shrink) ≡ length (now base)) ⌝ }
     ensures { λ r. ⌜ r .0 ≡ leastUpTo (λ i. leastOf (plainAt (now (base .entry)) (now (minimum .entry)) (now (edges .entry)) (now (grow .entry)) (now (shrink .entry)) i) (i + 1)) (length (now (base .entry))) ⌝ }
 {
-    let sizes = least(mark_floats(Kind::Size, base), mark_floats(Kind::Size, minimum));
-    let factors = least(mark_floats(Kind::Factor, grow), mark_floats(Kind::Factor, shrink));
-    least(least(sizes, mark_floats(Kind::Size, edges)), factors)
+    let m = least(mark_floats(Kind::Factor, shrink), no_mark());
+    let m = least(mark_floats(Kind::Factor, grow), m);
+    let m = least(mark_floats(Kind::Size, edges), m);
+    let m = least(mark_floats(Kind::Size, minimum), m);
+    least(mark_floats(Kind::Size, base), m)
 }
 
 // The marks of numbers beside their codes.

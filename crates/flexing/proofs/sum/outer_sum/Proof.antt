@@ -1,53 +1,86 @@
+-- The sum of check 6: the total so far is that of the first i items, and far below what a u64 holds. Assumes nothing.
+use borrow.Author.Needs.{needs}
+use mathlib.Core.Path.{_≡_, sym, ap, ap₂, _∙_, subst}
+use Prim.Native.Nat.{ℕ, _+_, _-_, _*_, _≤_, _<_, zero-le}
+use native.Mathlib.Nat.{le-antisymm, zero-add}
+use native.Mathlib.Omega.{arith}
+use lib.IntN.{ℤ, natAbs}
+use denote.Ref.{now}
+use Rattle.grid.specs.Grid.{sixtyFourths}
+use Rattle.grid.proofs.to_sixtyfourths.Reads as to-sixtyfourths-reads
+use Rattle.refusal.proofs.add_outer.Reads as add-outer-reads
+use Rattle.flexing.specs.declared.Item.{Item}
+use Rattle.flexing.specs.Flex.{outerUnits, outerSum}
+use Rattle.flexing.specs.Call.{each}
+use Rattle.flexing.specs.Cells.{itemIn, Measured}
+use Rattle.flexing.proofs.Each.{outer-none, outer-turn}
+use Rattle.flexing.proofs.Units.{outer-small}
 use Rattle.flexing.proofs.sum.outer_sum.Statement.{statement}
 use Rattle.flexing.proofs.sum.outer_sum.Tie as tie
 use Rattle.flexing.proofs.sum.outer_sum.Reads as reads
 use Rattle.flexing.proofs.sum.outer_sum.Lts as lts
 use Rattle.flexing.proofs.sum.outer_units.Reads as outer-units-reads
 use Rattle.flexing.proofs.table.pick.Reads as pick-reads
-use Rattle.grid.proofs.to_sixtyfourths.Reads as to-sixtyfourths-reads
-use Rattle.refusal.proofs.add_outer.Reads as add-outer-reads
 
 abbrev Inv-loop : tie.InvT-loop
-Inv-loop table n gap g total₀ i₀ total i = ?
+Inv-loop table n gap g total₀ i₀ total i = (i ≤ n) × (total ≤ i * 67108864) × (total ≡ outerSum gap (each i (λ k. itemIn table (0 + k))))
 
 abbrev μ-loop : tie.MeasureT-loop
-μ-loop table n gap g total₀ i₀ total i = ?
+μ-loop table n gap g total₀ i₀ total i = n - i
 
--- src/sum.rt:26:9
 to-sixtyfourths-requires : tie.Need-to-sixtyfourths-requires Inv-loop μ-loop
-to-sixtyfourths-requires c κs = ?
+to-sixtyfourths-requires c κs = c .pre .1
 
--- src/sum.rt:29:5
 loop-holds : tie.Need-loop-holds Inv-loop μ-loop
-loop-holds c = ?
+loop-holds c = (zero-le, zero-le, sym (outer-none (c .before .args .gap) (λ k. itemIn (now (c .before .args .table)) (0 + k))))
 
--- src/sum.rt:30:13
 pick-requires : tie.Need-pick-requires Inv-loop μ-loop
-pick-requires c κs = ?
+pick-requires c κs = omega (arith, c .loop-test .taken, c .before .before .before .pre .0)
 
--- src/sum.rt:31:43
 outer-units-requires : tie.Need-outer-units-requires Inv-loop μ-loop
-outer-units-requires c κs = ?
+outer-units-requires c κs =
+    let s = c .before .before .before .before in
+    subst (λ (it : Item). Measured it) (sym (c .pick .ensures)) (s .pre .2 (c .before .before .loop .i) (c .before .loop-test .taken))
 
--- src/sum.rt:31:9
+measured : (c : tie.After-outer-units Inv-loop μ-loop) → Measured (c .before .pick .result)
+measured c = let s = c .before .before .before .before .before in subst (λ (it : Item). Measured it) (sym (c .before .pick .ensures)) (s .pre .2 (c .before .before .before .loop .i) (c .before .before .loop-test .taken))
+
+-- one outer size, and a gap
+size-small : (c : tie.After-outer-units Inv-loop μ-loop) → natAbs (c .outer-units .result .0) ≤ 33554432
+size-small c = subst (λ (z : ℤ). natAbs z ≤ 33554432) (sym (c .outer-units .ensures)) (outer-small (c .before .pick .result) (measured c))
+
+gap-small : (c : tie.After-outer-units Inv-loop μ-loop) → natAbs (c .before .before .before .before .to-sixtyfourths .result .0) ≤ 16777216
+gap-small c = subst (λ (z : ℤ). natAbs z ≤ 16777216) (sym (c .before .before .before .before .to-sixtyfourths .ensures)) (c .before .before .before .before .before .pre .1 .small)
+
 add-outer-requires : tie.Need-add-outer-requires Inv-loop μ-loop
-add-outer-requires c κs = ?
+add-outer-requires c κs = (
+  omega (arith, c .before .before .loop-test .taken, c .before .before .before .loop .inv .1, c .before .before .before .before .before .pre .0),
+  omega (arith, size-small c),
+  gap-small c,
+)
 
--- src/sum.rt:32:9
 add-i : tie.Need-add-i Inv-loop μ-loop
-add-i c = ?
+add-i c = omega (arith, c .before .before .before .loop-test .taken, c .before .before .before .before .before .before .pre .0)
 
--- src/sum.rt:29:5
 loop-less : tie.Need-loop-less Inv-loop μ-loop
-loop-less c = ?
+loop-less c = omega (arith, c .before .before .before .loop-test .taken)
 
--- src/sum.rt:29:5
 loop-again : tie.Need-loop-again Inv-loop μ-loop
-loop-again c = ?
+loop-again c =
+    let u = c .before in
+    let l = u .before .before .before .loop in
+    let s = u .before .before .before .before .before in (
+      omega (arith, u .before .before .loop-test .taken),
+      omega (arith, l .inv .1, c .add-outer .ensures, size-small u, gap-small u),
+      outer-turn (s .args .gap) (λ k. itemIn (now (s .args .table)) (0 + k)) (l .i) (l .total) (u .outer-units .result .0) (u .before .before .before .before .to-sixtyfourths .result .0) (c .add-outer .result) (l .inv .2)
+          (u .outer-units .ensures ∙ ap outerUnits (u .before .pick .ensures ∙ ap (itemIn (now (s .args .table))) (sym (zero-add (l .i))))) (u .before .before .before .before .to-sixtyfourths .ensures) (c .add-outer .ensures),
+    )
 
--- src/sum.rt:22:1
 returns : tie.Need-returns Inv-loop μ-loop
-returns c = ?
+returns c =
+    let l = c .before .loop in
+    let s = c .before .before .before in
+    subst (λ (k : ℕ). l .total ≡ outerSum (s .args .gap) (each k (λ k. itemIn (now (s .args .table)) (0 + k)))) (le-antisymm (l .inv .0) (c .loop-test .left)) (l .inv .2)
 
 pub outer-sum-spec : {M : Type 1} → statement M
 outer-sum-spec =
