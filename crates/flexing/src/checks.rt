@@ -9,9 +9,16 @@ ghost use Rattle.refusal.specs.Domain.{float, shape, then};
 ghost use Rattle.refusal.specs.Marks.{leastOf, leastUpTo, leastMark, judged};
 ghost use Rattle.flexing.specs.Call.{lists, longest, alike, plainAt, besideAt, inputOf};
 ghost use Rattle.flexing.specs.Cells.{Even};
-use refusal::optional::{mark_codes, mark_floats_where};
-use refusal::{Kind, Mark, Verdict};
-use refusal::{judge, least, mark_float, mark_floats, no_mark};
+use refusal::Kind;
+use refusal::Mark;
+use refusal::Verdict;
+use refusal::judge;
+use refusal::least;
+use refusal::mark_float;
+use refusal::mark_floats;
+use refusal::no_mark;
+use refusal::optional::mark_codes;
+use refusal::optional::mark_floats_where;
 
 fn longer(a: usize, b: usize) -> usize
     ensures { λ r. ⌜ r ≡ max a b ⌝ }
@@ -33,11 +40,81 @@ fn has_room(n: usize, room: usize, rest: bool) -> bool
 }
 
 // Checks 1 and 2, from the lengths of the lists and the cells for the targets.
-pub fn check_lengths(base: usize, minimum: usize, maximum: usize, has: usize, edges: usize, grow: usize, shrink: usize, start: usize, end: usize, auto_start: usize, auto_end: usize, room: usize) -> Verdict
+pub fn check_lengths(
+    base: usize,
+    minimum: usize,
+    maximum: usize,
+    has: usize,
+    edges: usize,
+    grow: usize,
+    shrink: usize,
+    start: usize,
+    end: usize,
+    auto_start: usize,
+    auto_end: usize,
+    room: usize,
+) -> Verdict
     ensures { λ r. ⌜ r ≡ shape (longest (base ∷ minimum ∷ maximum ∷ has ∷ edges ∷ grow ∷ shrink ∷ start ∷ end ∷ «auto_start» ∷ «auto_end» ∷ [])) (leb base room && alike base (base ∷ minimum ∷ maximum ∷ has ∷ edges ∷ grow ∷ shrink ∷ start ∷ end ∷ «auto_start» ∷ «auto_end» ∷ [])) ⌝ }
 {
-    let longest = longer(base, longer(minimum, longer(maximum, longer(has, longer(edges, longer(grow, longer(shrink, longer(start, longer(end, longer(auto_start, longer(auto_end, 0)))))))))));
-    let even = is_alike(base, base, is_alike(minimum, base, is_alike(maximum, base, is_alike(has, base, is_alike(edges, base, is_alike(grow, base, is_alike(shrink, base, is_alike(start, base, is_alike(end, base, is_alike(auto_start, base, is_alike(auto_end, base, true)))))))))));
+    let longest = longer(
+        base,
+        longer(
+            minimum,
+            longer(
+                maximum,
+                longer(
+                    has,
+                    longer(
+                        edges,
+                        longer(
+                            grow,
+                            longer(
+                                shrink,
+                                longer(start, longer(end, longer(auto_start, longer(auto_end, 0)))),
+                            ),
+                        ),
+                    ),
+                ),
+            ),
+        ),
+    );
+    let even = is_alike(
+        base,
+        base,
+        is_alike(
+            minimum,
+            base,
+            is_alike(
+                maximum,
+                base,
+                is_alike(
+                    has,
+                    base,
+                    is_alike(
+                        edges,
+                        base,
+                        is_alike(
+                            grow,
+                            base,
+                            is_alike(
+                                shrink,
+                                base,
+                                is_alike(
+                                    start,
+                                    base,
+                                    is_alike(
+                                        end,
+                                        base,
+                                        is_alike(auto_start, base, is_alike(auto_end, base, true)),
+                                    ),
+                                ),
+                            ),
+                        ),
+                    ),
+                ),
+            ),
+        ),
+    );
     refusal::check_shape(longest, has_room(base, room, even))
 }
 
@@ -64,7 +141,10 @@ fn mark_beside<'a>(kind: Kind, xs: &'a [f32], codes: &'a [u32], taken: u32) -> M
     requires { ⌜ (length (now xs) ≤ 1024) × (length (now codes) ≡ length (now xs)) ⌝ }
     ensures { λ r. ⌜ r .0 ≡ leastUpTo (λ i. leastOf (besideAt taken (float kind) (now (xs .entry)) (now (codes .entry)) i) (i + 1)) (length (now (xs .entry))) ⌝ }
 {
-    least(mark_codes(1, codes), mark_floats_where(kind, xs, codes, taken))
+    least(
+        mark_codes(1, codes),
+        mark_floats_where(kind, xs, codes, taken),
+    )
 }
 
 // Checks 3 to 5.
@@ -86,7 +166,10 @@ pub fn check_numbers<'a>(
     requires { ⌜ Even (lists (now base) (now minimum) (now maximum) (now has) (now edges) (now grow) (now shrink) (now start) (now end) (now «auto_start») (now «auto_end»)) ⌝ }
     ensures { λ r. ⌜ r ≡ judged (leastMark (inputOf inner gap (lists (now (base .entry)) (now (minimum .entry)) (now (maximum .entry)) (now (has .entry)) (now (edges .entry)) (now (grow .entry)) (now (shrink .entry)) (now (start .entry)) (now (end .entry)) (now («auto_start» .entry)) (now («auto_end» .entry))))) ⌝ }
 {
-    let container = least(mark_float(Kind::Size, inner, 0), mark_float(Kind::Size, gap, 0));
+    let container = least(
+        mark_float(Kind::Size, inner, 0),
+        mark_float(Kind::Size, gap, 0),
+    );
     let plain = mark_plain(base, minimum, edges, grow, shrink);
     let maxima = mark_beside(Kind::Size, maximum, has, 1);
     let starts = mark_beside(Kind::Margin, start, auto_start, 0);

@@ -55,7 +55,10 @@ pub struct Sums {
 
 // What flexing a line answers: its free space before flexing, and its rounds.
 pub enum FlexAnswer {
-    Done { free: grid::Sixtyfourths, rounds: u32 },
+    Done {
+        free: grid::Sixtyfourths,
+        rounds: u32,
+    },
     Refused(refusal::Refusal),
 }
 
@@ -99,8 +102,27 @@ fn flex_checked<'a>(
     ensures { λ r. ⌜ Answered (summed (outerSum (cleaned gap) (itemsOf (lists (now (base .entry)) (now (minimum .entry)) (now (maximum .entry)) (now (has .entry)) (now (edges .entry)) (now (grow .entry)) (now (shrink .entry)) (now (start .entry)) (now (end .entry)) (now («auto_start» .entry)) (now («auto_end» .entry)))))) (cleaned inner) (cleaned gap) (itemsOf (lists (now (base .entry)) (now (minimum .entry)) (now (maximum .entry)) (now (has .entry)) (now (edges .entry)) (now (grow .entry)) (now (shrink .entry)) (now (start .entry)) (now (end .entry)) (now («auto_start» .entry)) (now («auto_end» .entry)))) r (now (targets .entry)) (now (targets .exit)) ⌝ }
 {
     let mut table = [0.0; 8192];
-    table::read_items(base, minimum, maximum, has, edges, grow, shrink, start, end, auto_start, auto_end, &mut table);
-    flex_read(&table, base.len(), grid::clean(inner), grid::clean(gap), targets)
+    table::read_items(
+        base,
+        minimum,
+        maximum,
+        has,
+        edges,
+        grow,
+        shrink,
+        start,
+        end,
+        auto_start,
+        auto_end,
+        &mut table,
+    );
+    flex_read(
+        &table,
+        base.len(),
+        grid::clean(inner),
+        grid::clean(gap),
+        targets,
+    )
 }
 
 // Checks 1 to 5.
@@ -122,10 +144,37 @@ fn check_line<'a>(
 ) -> Verdict
     ensures { λ r. ⌜ r ≡ then (shapeOf (lists (now (base .entry)) (now (minimum .entry)) (now (maximum .entry)) (now (has .entry)) (now (edges .entry)) (now (grow .entry)) (now (shrink .entry)) (now (start .entry)) (now (end .entry)) (now («auto_start» .entry)) (now («auto_end» .entry))) room) (judged (leastMark (inputOf inner gap (lists (now (base .entry)) (now (minimum .entry)) (now (maximum .entry)) (now (has .entry)) (now (edges .entry)) (now (grow .entry)) (now (shrink .entry)) (now (start .entry)) (now (end .entry)) (now («auto_start» .entry)) (now («auto_end» .entry)))))) ⌝ }
 {
-    let v = checks::check_lengths(base.len(), minimum.len(), maximum.len(), has.len(), edges.len(), grow.len(), shrink.len(), start.len(), end.len(), auto_start.len(), auto_end.len(), room);
+    let v = checks::check_lengths(
+        base.len(),
+        minimum.len(),
+        maximum.len(),
+        has.len(),
+        edges.len(),
+        grow.len(),
+        shrink.len(),
+        start.len(),
+        end.len(),
+        auto_start.len(),
+        auto_end.len(),
+        room,
+    );
     match v {
         Verdict::Refused(why) => Verdict::Refused(why),
-        Verdict::Passed => checks::check_numbers(inner, gap, base, minimum, maximum, has, edges, grow, shrink, start, end, auto_start, auto_end),
+        Verdict::Passed => checks::check_numbers(
+            inner,
+            gap,
+            base,
+            minimum,
+            maximum,
+            has,
+            edges,
+            grow,
+            shrink,
+            start,
+            end,
+            auto_start,
+            auto_end,
+        ),
     }
 }
 
@@ -149,9 +198,39 @@ pub fn flex_line<'a>(
 ) -> FlexAnswer
     ensures { λ r. ⌜ FlexedLine inner gap (lists (now (base .entry)) (now (minimum .entry)) (now (maximum .entry)) (now (has .entry)) (now (edges .entry)) (now (grow .entry)) (now (shrink .entry)) (now (start .entry)) (now (end .entry)) (now («auto_start» .entry)) (now («auto_end» .entry))) r (now (targets .entry)) (now (targets .exit)) ⌝ }
 {
-    let v = check_line(inner, gap, base, minimum, maximum, has, edges, grow, shrink, start, end, auto_start, auto_end, targets.len());
+    let v = check_line(
+        inner,
+        gap,
+        base,
+        minimum,
+        maximum,
+        has,
+        edges,
+        grow,
+        shrink,
+        start,
+        end,
+        auto_start,
+        auto_end,
+        targets.len(),
+    );
     match v {
         Verdict::Refused(why) => FlexAnswer::Refused(why),
-        Verdict::Passed => flex_checked(inner, gap, base, minimum, maximum, has, edges, grow, shrink, start, end, auto_start, auto_end, targets),
+        Verdict::Passed => flex_checked(
+            inner,
+            gap,
+            base,
+            minimum,
+            maximum,
+            has,
+            edges,
+            grow,
+            shrink,
+            start,
+            end,
+            auto_start,
+            auto_end,
+            targets,
+        ),
     }
 }

@@ -4,9 +4,9 @@ ghost use Prim.Native.Nat.{_≤_};
 ghost use Rattle.grid.specs.Grid.{Length};
 ghost use Rattle.flexing.specs.Flex.{outerUnits, outerSum};
 ghost use Rattle.flexing.specs.Cells.{itemsIn, Measured, Tabled};
+use crate::Item;
 use crate::sizes::hypothetical_size;
 use crate::table::pick;
-use crate::Item;
 
 // The hypothetical outer size. Beyond 262,144 px an f32 does not hold it, so it is added in whole sixty-fourths.
 fn outer_units(it: Item) -> grid::Sixtyfourths

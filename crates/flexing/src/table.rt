@@ -45,7 +45,14 @@ fn read_or(x: f32, given: bool, other: f32) -> f32
 }
 
 // The same of numbers that are there only where their code is `taken`.
-pub fn store_where<'a>(xs: &'a [f32], codes: &'a [u32], taken: u32, other: f32, column: usize, table: &mut [f32; 8192])
+pub fn store_where<'a>(
+    xs: &'a [f32],
+    codes: &'a [u32],
+    taken: u32,
+    other: f32,
+    column: usize,
+    table: &mut [f32; 8192],
+)
     requires { ⌜ (length (now xs) ≤ 1024) × (column ≤ 7168) × (length (now table) ≡ 8192) × (length (now codes) ≡ length (now xs)) ⌝ }
     ensures { λ _. ⌜ Stored column (length (now (xs .entry))) (readWhere (now (xs .entry)) (now (codes .entry)) taken other) (now (table .entry)) (now (table .exit)) ⌝ }
 {

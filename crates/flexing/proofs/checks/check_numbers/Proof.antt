@@ -63,9 +63,9 @@ returns c =
     let f = c .before .before .before .before .before .before .before .before .before .before .before in
     c .judge .ensures
     ∙ ap judged
-        (input-is (s .args .inner) (s .args .gap) (given s) (s .pre) (c .before .before .before .before .before .before .before .before .before .least .result .0) (c .before .before .before .before .before .before .before .before .mark-plain .result .0) (c .before .before .before .before .before .before .before .mark-beside .result .0) (c .before .before .before .before .before .before .mark-beside2 .result .0) (c .before .before .before .before .before .mark-beside3 .result .0) (c .before .before .before .before .least2 .result .0) (c .before .before .before .least3 .result .0) (c .before .before .least4 .result .0) (c .before .least5 .result .0)
-        (container-is (float Size (s .args .inner)) (float Size (s .args .gap)) (f .mark-float .result .0) (c .before .before .before .before .before .before .before .before .before .before .mark-float2 .result .0) (c .before .before .before .before .before .before .before .before .before .least .result .0) (f .mark-float .ensures) (c .before .before .before .before .before .before .before .before .before .before .mark-float2 .ensures) (c .before .before .before .before .before .before .before .before .before .least .ensures))
-        (c .before .before .before .before .before .before .before .before .mark-plain .ensures) (c .before .before .before .before .before .before .before .mark-beside .ensures) (c .before .before .before .before .before .before .mark-beside2 .ensures) (c .before .before .before .before .before .mark-beside3 .ensures) (c .before .before .before .before .least2 .ensures) (c .before .before .before .least3 .ensures) (c .before .before .least4 .ensures) (c .before .least5 .ensures))
+    (input-is (s .args .inner) (s .args .gap) (given s) (s .pre) (c .before .before .before .before .before .before .before .before .before .least .result .0) (c .before .before .before .before .before .before .before .before .mark-plain .result .0) (c .before .before .before .before .before .before .before .mark-beside .result .0) (c .before .before .before .before .before .before .mark-beside2 .result .0) (c .before .before .before .before .before .mark-beside3 .result .0) (c .before .before .before .before .least2 .result .0) (c .before .before .before .least3 .result .0) (c .before .before .least4 .result .0) (c .before .least5 .result .0)
+    (container-is (float Size (s .args .inner)) (float Size (s .args .gap)) (f .mark-float .result .0) (c .before .before .before .before .before .before .before .before .before .before .mark-float2 .result .0) (c .before .before .before .before .before .before .before .before .before .least .result .0) (f .mark-float .ensures) (c .before .before .before .before .before .before .before .before .before .before .mark-float2 .ensures) (c .before .before .before .before .before .before .before .before .before .least .ensures))
+    (c .before .before .before .before .before .before .before .before .mark-plain .ensures) (c .before .before .before .before .before .before .before .mark-beside .ensures) (c .before .before .before .before .before .before .mark-beside2 .ensures) (c .before .before .before .before .before .mark-beside3 .ensures) (c .before .before .before .before .least2 .ensures) (c .before .before .before .least3 .ensures) (c .before .before .least4 .ensures) (c .before .least5 .ensures))
 
 pub check-numbers-spec : {M : Type 1} → statement M
 check-numbers-spec =
