@@ -9,3 +9,4 @@ pub mod Determined
 pub mod Columns
 pub mod Marked
 pub mod Accept
+pub mod Examples
