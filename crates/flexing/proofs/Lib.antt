@@ -10,3 +10,4 @@ pub mod Columns
 pub mod Marked
 pub mod Accept
 pub mod Examples
+pub mod Sign
