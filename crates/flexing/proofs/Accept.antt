@@ -3,19 +3,19 @@ use mathlib.Core.Path.{_≡_, refl, sym, ap, _∙_, subst}
 use mathlib.Core.Logic.{_⊎_, inl, inr}
 use mathlib.Core.Bool.{Bool, true, false, cond, _&&_, false≢true}
 use mathlib.Core.List.{List, [], _∷_, _++_}
-use Prim.Native.Nat.{ℕ, zero, suc, _+_, _*_, _/_, _≤_, _<_, max, zero-le}
+use Prim.Native.Nat.{ℕ, zero, suc, _+_, _*_, _/_, _≤_, _<_, zero-le}
 use native.Mathlib.Nat.{le-trans, le-max-left, zero-add, zero-mul, zero-div}
 use native.Mathlib.Omega.{arith}
-use lib.Dec.{T, eqb, leb, lit≤}
+use lib.Dec.{T, eqb, leb}
 use lib.ListN.{length, getD}
 use lib.IntN.{pos, negℤ, natAbs}
 use lib.Ieee.{Float, nan, inf, fin, up, down, ofBits}
 use borrow.Author.Tests.{leb-true, eqb-true}
 use Rattle.grid.specs.Grid.{Length, onGrid, sixtyFourths, cleaned}
-use Rattle.refusal.specs.Domain.{Number, float, code, checked, summed, then}
+use Rattle.refusal.specs.Domain.{float, code, checked, summed, then}
 use Rattle.refusal.specs.Optional.{optional}
-use Rattle.refusal.specs.Marks.{leastMark, judged, Fine, AllFine, Sound}
-use Rattle.refusal.specs.declared.Kind.the-variants.{Size, Factor}
+use Rattle.refusal.specs.Marks.{leastMark, judged, AllFine, Sound}
+use Rattle.refusal.specs.declared.Kind.the-variants.{Size}
 use Rattle.refusal.specs.declared.Kind.the-variants as kind
 use Rattle.refusal.specs.declared.Refusal.{Refusal}
 use Rattle.refusal.specs.declared.Verdict.{Verdict}
@@ -25,7 +25,7 @@ use Rattle.refusal.proofs.Checks.{judged-checked, accepted, then-passed, shape-
 use Rattle.flexing.specs.declared.Item.{Item}
 use Rattle.flexing.specs.declared.FlexAnswer.{FlexAnswer}
 use Rattle.flexing.specs.Flex.{nought, outerSum}
-use Rattle.flexing.specs.Call.{Lists, count, each, itemAt, itemsOf, lengths, longest, alike, shapeOf, plainAt, besideAt, inputOf, readWhere, lineVerdict, Answered}
+use Rattle.flexing.specs.Call.{Lists, count, each, itemAt, itemsOf, lengths, longest, alike, shapeOf, plainAt, besideAt, inputOf, lineVerdict, Answered}
 use Rattle.flexing.specs.Cells.{itemIn, itemsIn, Margin, Measured, Every, Tabled, Even, Held, Checked}
 use Rattle.flexing.proofs.Each.{each-ext}
 

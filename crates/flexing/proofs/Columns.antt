@@ -1,19 +1,18 @@
 -- The table of numbers: a loop that fills a column, and eight columns that hold the items of the lists. Assumes nothing.
-use mathlib.Core.Path.{_≡_, refl, sym, ap, _∙_, subst}
+use mathlib.Core.Path.{_≡_, refl, sym, ap, _∙_}
 use mathlib.Core.Logic.{_⊎_, inl, inr}
 use mathlib.Core.Bool.{false}
 use mathlib.Core.List.{List}
 use Prim.Native.Nat.{ℕ, _+_, _≤_, _<_, zero-le}
-use native.Mathlib.Nat.{le-refl, le-trans, lt-of-lt-of-le, zero-add}
+use native.Mathlib.Nat.{lt-of-lt-of-le, zero-add}
 use native.Mathlib.Omega.{arith}
 use borrow.Author.Count.{below-none, below-more}
 use lib.ListN.{length, getD, set, length-set}
 use lib.Seq.{getD-set-same, getD-set-other}
 use lib.Ieee.{Float, nan, inf}
-use Rattle.flexing.specs.declared.Item.{Item}
 use Rattle.flexing.specs.Flex.{nought}
-use Rattle.flexing.specs.Call.{Lists, count, read, readWhere, itemAt}
-use Rattle.flexing.specs.Cells.{itemIn, Stored, Even, Held}
+use Rattle.flexing.specs.Call.{Lists, read, readWhere}
+use Rattle.flexing.specs.Cells.{Stored, Even, Held}
 
 -- the first i cells of the column are written
 pub record Filling (column n : ℕ) (f : ℕ → Float) (old new : List Float) (i : ℕ) : Type 0 where

@@ -2,12 +2,11 @@
 use mathlib.Core.Path.{_≡_, refl, sym, ap, ap₂, _∙_}
 use mathlib.Core.Bool.{Bool, true, false, true≢false, false≢true}
 use mathlib.Core.List.{List, _++_}
-use Prim.Native.Nat.{ℕ, _≤_}
+use Prim.Native.Nat.{ℕ}
 use native.Mathlib.Nat.{le-trans, le-of-eq}
 use lib.ListN.{length, drop, length-map}
 use lib.IntN.{ℤ}
 use lib.Ieee.{Float}
-use Rattle.grid.specs.Grid.{cleaned}
 use Rattle.grid.specs.declared.Sixtyfourths.{Sixtyfourths}
 use Rattle.refusal.specs.declared.Refusal.{Refusal}
 use Rattle.refusal.specs.declared.Refusal.the-variants.{TooManyItems}

@@ -9,10 +9,9 @@ use lib.ListN.{length, getD, take, drop, length-drop, length-map, take-append-dr
 use lib.Seq.{take-suc, getD-drop, ext-getD}
 use lib.IntN.{ℤ}
 use lib.Ieee.{Float, nan}
-use Rattle.flexing.specs.declared.Item.{Item}
 use Rattle.flexing.specs.declared.Line.{Line}
 use Rattle.flexing.specs.declared.Sums.{Sums}
-use Rattle.flexing.specs.Flex.{Cell, first, gaps, remaining, after, Runs, freeBefore, grows, begun, lineOf, targets, Flexed, _⊕_, _⊖_}
+use Rattle.flexing.specs.Flex.{Cell, first, gaps, remaining, after, Runs, freeBefore, grows, begun, lineOf, Flexed, _⊕_, _⊖_}
 use Rattle.grid.specs.Grid.{cleaned}
 use Rattle.flexing.specs.Call.{each}
 use Rattle.flexing.specs.Cells.{itemIn, itemsIn, cellAt, cellsOf, Kept, Rewritten, Ran, Summed}

@@ -2,14 +2,14 @@
 use mathlib.Core.Path.{_≡_, refl, sym, ap, _∙_, subst}
 use mathlib.Core.Bool.{Bool}
 use mathlib.Core.List.{List}
-use Prim.Native.Nat.{ℕ, suc, _+_, _≤_, _<_}
+use Prim.Native.Nat.{ℕ, _+_, _≤_, _<_}
 use native.Mathlib.Nat.{le-trans, le-of-eq}
 use native.Mathlib.Numerals.{add-one}
 use borrow.Author.Count.{below-none, below-more}
 use lib.ListN.{length}
 use lib.Ieee.{Float}
 use Rattle.flexing.specs.declared.Line.{Line}
-use Rattle.flexing.specs.Flex.{Cell, unfrozen, round, after, Runs}
+use Rattle.flexing.specs.Flex.{Cell, unfrozen, round, after}
 use Rattle.flexing.specs.Cells.{cellAt, cellsOf, Kept, Rewritten, Ran}
 use Rattle.flexing.proofs.Each.{length-each}
 use Rattle.flexing.proofs.Falls.{falls, rounds-left}

@@ -3,25 +3,25 @@ use mathlib.Core.Path.{_≡_, refl, sym, ap, ap₂, _∙_, subst}
 use mathlib.Core.Logic.{_⊎_, inl, inr}
 use mathlib.Core.Bool.{Bool, true, false, cond}
 use mathlib.Core.List.{List, [], _∷_}
-use Prim.Native.Nat.{ℕ, zero, suc, _+_, _-_, _*_, _^_, _≤_, _<_, zero-le}
+use Prim.Native.Nat.{ℕ, zero, suc, _+_, _-_, _*_, _^_, _≤_, _<_}
 use native.Mathlib.Nat.{le-refl, le-trans, le-of-eq, mul-le-mul-left, mul-zero, mul-suc, zero-add, lt-of-le-of-lt, lt-of-lt-of-le}
 use native.Mathlib.Omega.{arith}
-use lib.Dec.{T, lit≤, lit<}
+use lib.Dec.{lit≤, lit<}
 use lib.Signed.{mag}
 use mir.Syntax.{w32}
 use mir.Val.{toZ, ofZ, SFits}
 use mir.ValLaws.{toZ-ofZ}
 use lib.ListN.{length}
 use lib.IntN.{ℤ, pos, negsuc, negℤ, natAbs, _+ℤ_, _-ℤ_, _*ℤ_, +ℤ-assoc, +ℤ-idl, +ℤ-idr, *ℤ-zero}
-use lib.Ieee.{Float, nan, inf, fin, binary32, add, mul, lt, ofInt, ofBits}
-use Rattle.grid.specs.Grid.{At, Length, onGrid, sixtyFourths}
+use lib.Ieee.{Float, nan, inf, fin, binary32, mul, lt, ofInt, ofBits}
+use Rattle.grid.specs.Grid.{At, Length, sixtyFourths}
 use Rattle.grid.proofs.Exact.{add-at, mul-at}
 use Rattle.grid.proofs.Meaning.{at-of-grid, grid-of-at, none-at}
 use Rattle.grid.proofs.Sums.{abs-add}
 use Rattle.grid.proofs.Convert.{ofInt-at, back32}
 use Rattle.flexing.specs.declared.Item.{Item}
 use Rattle.flexing.specs.Flex.{sumFrom, total, clamp, hypothetical, outer, outerUnits, sumUnits, outerSum, gaps, raised, lowered, nought, _⊕_}
-use Rattle.flexing.specs.Cells.{Margin, Measured, Every, Accepted}
+use Rattle.flexing.specs.Cells.{Measured, Every, Accepted}
 
 -- ---- the hypothetical size is one of the item's lengths
 

@@ -5,9 +5,10 @@ use mathlib.Core.List.{List, [], _∷_, _++_}
 use Prim.Native.Nat.{ℕ, zero, suc, max}
 use lib.Dec.{eqb, leb}
 use lib.ListN.{length, getD}
+use lib.IntN.{ℤ, pos}
 use lib.Ieee.{Float, nan, inf}
 use Rattle.grid.specs.Grid.{cleaned}
-use Rattle.refusal.specs.Domain.{Number, float, code, Input, checked, shape, summed, then}
+use Rattle.refusal.specs.Domain.{Number, float, code, Input, checked, shape, summed, then, Where, nowhere, refusalOf}
 use Rattle.refusal.specs.Optional.{optional}
 use Rattle.refusal.specs.declared.Kind.the-variants.{Size, Margin, Factor}
 use Rattle.refusal.specs.declared.Verdict.{Verdict}
@@ -120,3 +121,15 @@ Answered v inner gap items (Done free rounds) old new = (v ≡ Passed) × Flexed
 
 abbrev pub FlexedLine : Float → Float → Lists → FlexAnswer → List Float → List Float → Type 0
 FlexedLine inner gap ls r old new = Answered (lineVerdict inner gap ls (length old)) (cleaned inner) (cleaned gap) (itemsOf ls) r old new
+
+-- ---- the paper's values: number, place and rounds by its table, and the free space, which is 0 where the call is refused
+
+pub record Values : Type 0 where
+  pub number : ℕ
+  pub place : Where
+  pub free : ℤ
+  pub rounds : ℕ
+
+abbrev pub valuesOf : FlexAnswer → Values
+valuesOf (Done free rounds) = record { number = 0; place = nowhere; free = free .0; rounds = rounds }
+valuesOf (Refused why) = record { number = refusalOf why .number; place = refusalOf why .place; free = pos 0; rounds = refusalOf why .rounds }

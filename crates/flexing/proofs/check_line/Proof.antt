@@ -1,5 +1,5 @@
 -- Checks 1 to 5: where the lengths pass, the numbers are checked. Assumes nothing.
-use mathlib.Core.Path.{_≡_, sym, ap, _∙_}
+use mathlib.Core.Path.{sym, ap, _∙_}
 use denote.Ref.{now}
 use Rattle.refusal.specs.Domain.{then}
 use Rattle.refusal.specs.Marks.{leastMark, judged}

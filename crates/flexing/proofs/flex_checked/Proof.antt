@@ -1,5 +1,5 @@
 -- A call that checks 1 to 5 have passed is read, and flexed. Assumes nothing.
-use mathlib.Core.Path.{_≡_, sym, subst}
+use mathlib.Core.Path.{sym, subst}
 use lib.Ieee.{Float}
 use denote.Ref.{now}
 use Rattle.grid.specs.Grid.{Length}

@@ -1,5 +1,5 @@
 -- The call for one line: what it answers is what its checks say, in their order. Assumes nothing.
-use mathlib.Core.Path.{_≡_, refl, sym, _∙_, subst}
+use mathlib.Core.Path.{refl, sym, _∙_, subst}
 use lib.ListN.{length}
 use denote.Ref.{now}
 use Rattle.grid.specs.Grid.{cleaned}

@@ -1,8 +1,8 @@
 -- Check 6, and the line flexed where it passes. Assumes nothing.
-use mathlib.Core.Path.{_≡_, refl, sym, ap, _∙_, subst}
+use mathlib.Core.Path.{refl, sym, ap, _∙_, subst}
 use native.Mathlib.Nat.{zero-add}
 use native.Mathlib.Omega.{arith}
-use Prim.Native.Nat.{ℕ, _+_, _≤_}
+use Prim.Native.Nat.{ℕ, _+_}
 use denote.Ref.{now}
 use mathlib.Core.List.{List}
 use Rattle.refusal.specs.Domain.{summed}

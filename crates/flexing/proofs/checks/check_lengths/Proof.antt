@@ -1,7 +1,7 @@
 -- Checks 1 and 2: each call of a leaf is one length more of the definition. Assumes nothing.
-use mathlib.Core.Path.{_≡_, ap, ap₂, _∙_}
+use mathlib.Core.Path.{ap, ap₂, _∙_}
 use mathlib.Core.Bool.{Bool, _&&_}
-use Prim.Native.Nat.{ℕ, max}
+use Prim.Native.Nat.{max}
 use lib.Dec.{eqb, leb}
 use Rattle.refusal.specs.Domain.{shape}
 use borrow.Author.Needs.{needs}

@@ -1,5 +1,5 @@
 -- Checks 3 to 5: the least of all marks is that of the input, and is judged once. Assumes nothing.
-use mathlib.Core.Path.{_≡_, ap, _∙_}
+use mathlib.Core.Path.{ap, _∙_}
 use denote.Ref.{now}
 use Rattle.refusal.specs.Domain.{float}
 use Rattle.refusal.specs.Marks.{judged}

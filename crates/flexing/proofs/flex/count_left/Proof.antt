@@ -1,7 +1,7 @@
 -- How many items are not frozen: the count so far is that of the first i cells, whatever items and targets stand beside the marks. Assumes nothing.
 use mathlib.Core.Path.{_≡_, sym, subst}
 use mathlib.Core.List.{List}
-use Prim.Native.Nat.{ℕ, _-_, _≤_, _<_, zero-le}
+use Prim.Native.Nat.{ℕ, _-_, _≤_, zero-le}
 use native.Mathlib.Nat.{le-refl, le-antisymm}
 use native.Mathlib.Omega.{arith}
 use lib.Ieee.{Float}

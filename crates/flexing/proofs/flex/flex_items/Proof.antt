@@ -1,5 +1,5 @@
 -- Flexing a line: its parts, put together, are the definition's steps. Assumes nothing.
-use mathlib.Core.Path.{_≡_, ap, _∙_}
+use mathlib.Core.Path.{ap, _∙_}
 use mathlib.Core.Bool.{false}
 use lib.ListN.{replicate}
 use lib.IntN.{ℤ, pos}

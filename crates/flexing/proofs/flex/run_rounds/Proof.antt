@@ -1,11 +1,8 @@
 -- The rounds: after k turns the cells are those of k rounds, and each turn lowers the number of unfrozen items. Assumes nothing.
-use mathlib.Core.Path.{_≡_, _∙_, subst}
-use mathlib.Core.Bool.{Bool}
-use mathlib.Core.List.{List}
-use Prim.Native.Nat.{ℕ, _+_, _≤_, _<_, zero-le}
+use mathlib.Core.Path.{_∙_, subst}
+use Prim.Native.Nat.{ℕ, _<_, zero-le}
 use native.Mathlib.Nat.{le-antisymm}
 use native.Mathlib.Omega.{arith}
-use lib.Ieee.{Float}
 use denote.Ref.{now}
 use Rattle.flexing.specs.Flex.{unfrozen}
 use Rattle.flexing.specs.Cells.{cellsOf}

@@ -1,6 +1,6 @@
 -- One round: its parts, put together, are the definition's round. Assumes nothing.
 use borrow.Author.Needs.{needs}
-use mathlib.Core.Path.{_≡_, sym, _∙_}
+use mathlib.Core.Path.{sym, _∙_}
 use denote.Ref.{now}
 use Rattle.flexing.specs.Cells.{cellAt, cellsOf}
 use Rattle.flexing.proofs.Each.{length-each}

@@ -1,12 +1,11 @@
 -- The sum of check 6: the total so far is that of the first i items, and far below what a u64 holds. Assumes nothing.
 use borrow.Author.Needs.{needs}
-use mathlib.Core.Path.{_≡_, sym, ap, ap₂, _∙_, subst}
-use Prim.Native.Nat.{ℕ, _+_, _-_, _*_, _≤_, _<_, zero-le}
+use mathlib.Core.Path.{_≡_, sym, ap, _∙_, subst}
+use Prim.Native.Nat.{ℕ, _+_, _-_, _*_, _≤_, zero-le}
 use native.Mathlib.Nat.{le-antisymm, zero-add}
 use native.Mathlib.Omega.{arith}
 use lib.IntN.{ℤ, natAbs}
 use denote.Ref.{now}
-use Rattle.grid.specs.Grid.{sixtyFourths}
 use Rattle.grid.proofs.to_sixtyfourths.Reads as to-sixtyfourths-reads
 use Rattle.refusal.proofs.add_outer.Reads as add-outer-reads
 use Rattle.flexing.specs.declared.Item.{Item}

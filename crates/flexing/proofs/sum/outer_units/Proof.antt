@@ -1,13 +1,9 @@
 -- The hypothetical outer size in whole sixty-fourths: no sum leaves an i32. Assumes nothing.
 use borrow.Author.Needs.{needs}
-use mathlib.Core.Path.{_≡_, sym, ap, _∙_, subst}
-use lib.IntN.{ℤ, _+ℤ_}
+use mathlib.Core.Path.{sym, ap, _∙_, subst}
 use lib.Ieee.{Float}
-use mir.Syntax.{w32}
-use mir.Val.{toZ, ofZ, SFits}
 use Rattle.grid.specs.Grid.{Length, sixtyFourths}
 use Rattle.grid.proofs.to_sixtyfourths.Reads as to-sixtyfourths-reads
-use Rattle.flexing.specs.Flex.{hypothetical, outerUnits}
 use Rattle.flexing.proofs.Units.{first-length, margins-added, outer-added}
 use Rattle.flexing.proofs.sum.outer_units.Statement.{statement}
 use Rattle.flexing.proofs.sum.outer_units.Tie as tie

@@ -1,8 +1,7 @@
 -- The eight columns are the items of the lists: no column writes over another. Assumes nothing.
-use mathlib.Core.Path.{_≡_, _∙_}
+use mathlib.Core.Path.{_∙_}
 use native.Mathlib.Omega.{arith}
 use lib.Dec.{lit≤}
-use lib.ListN.{length}
 use denote.Ref.{now}
 use Rattle.flexing.specs.Call.{Lists, lists}
 use Rattle.flexing.proofs.Columns.{held-of}

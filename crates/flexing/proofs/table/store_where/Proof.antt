@@ -1,6 +1,6 @@
 -- A column of numbers that may be absent: the loop has filled its first i cells. Assumes nothing.
 use borrow.Author.Needs.{needs, scaled-fits}
-use Prim.Native.Nat.{ℕ, _+_, _-_, _≤_, _<_}
+use Prim.Native.Nat.{ℕ, _-_}
 use native.Mathlib.Omega.{arith}
 use lib.Ieee.{Float}
 use lib.ListN.{length}
