@@ -53,7 +53,7 @@ even-of ls room h =
         few = le-trans {m = longest (lengths ls)} (le-max-left n _) (p .0);
         minimum = a .1 .0;
         maximum = a .1 .1 .0;
-        has = a .1 .1 .1 .0;
+        has-maximum = a .1 .1 .1 .0;
         edges = a .1 .1 .1 .1 .0;
         grow = a .1 .1 .1 .1 .1 .0;
         shrink = a .1 .1 .1 .1 .1 .1 .0;
@@ -120,7 +120,7 @@ module _ (inner gap : Float) (ls : Lists) (s : Sound (inputOf inner gap ls)) whe
 
   pub measured-of : (i : ℕ) → i < count ls → Measured (itemAt ls i)
   measured-of i h =
-      let M = besideAt 1 (float Size) (ls .maximum) (ls .has) i in
+      let M = besideAt 1 (float Size) (ls .maximum) (ls .has-maximum) i in
       let S = besideAt 0 (float kind.Margin) (ls .start) (ls .auto-start) i in
       let E = besideAt 0 (float kind.Margin) (ls .end) (ls .auto-end) i in
       let a = fine-append (plainAt (ls .base) (ls .minimum) (ls .edges) (ls .grow) (ls .shrink) i) (M ++ (S ++ E)) (s .items i h) in
@@ -129,7 +129,7 @@ module _ (inner gap : Float) (ls : Lists) (s : Sound (inputOf inner gap ls)) whe
       record {
         base = clean-length (getD (ls .base) i nan) (fine-size (a .0 .0) .0);
         minimum = clean-length (getD (ls .minimum) i nan) (fine-size (a .0 .1 .0) .0);
-        maximum = given-maximum (getD (ls .has) i 0) (getD (ls .maximum) i nan) (b .0);
+        maximum = given-maximum (getD (ls .has-maximum) i 0) (getD (ls .maximum) i nan) (b .0);
         edges = clean-length (getD (ls .edges) i nan) (fine-size (a .0 .1 .1 .0) .0);
         start = given-margin (getD (ls .auto-start) i 0) (getD (ls .start) i nan) (d .0);
         end = given-margin (getD (ls .auto-end) i 0) (getD (ls .end) i nan) (d .1);

@@ -53,7 +53,7 @@ before p j h = p .others j (inl h)
 pub held-of : (ls : Lists) → Even ls → (t0 t1 t2 t3 t4 t5 t6 t7 t8 : List Float) (x : Float) → x ≡ inf false
     → Stored 0 (length (ls .base)) (read (ls .base)) t0 t1
     → Stored 1024 (length (ls .minimum)) (read (ls .minimum)) t1 t2
-    → Stored 2048 (length (ls .maximum)) (readWhere (ls .maximum) (ls .has) 1 x) t2 t3
+    → Stored 2048 (length (ls .maximum)) (readWhere (ls .maximum) (ls .has-maximum) 1 x) t2 t3
     → Stored 3072 (length (ls .edges)) (read (ls .edges)) t3 t4
     → Stored 4096 (length (ls .grow)) (read (ls .grow)) t4 t5
     → Stored 5120 (length (ls .shrink)) (read (ls .shrink)) t5 t6
@@ -64,7 +64,7 @@ held-of ls even t0 t1 t2 t3 t4 t5 t6 t7 t8 x inf-is p0 p1 p2 p3 p4 p5 p6 p7 i h 
     let few : i < 1024 = omega (arith, even .few) in
     let e0 : getD t8 i nan ≡ read (ls .base) i = ap (λ (j : ℕ). getD t8 j nan) (sym (zero-add i)) ∙ before p7 (0 + i) (omega arith) ∙ before p6 (0 + i) (omega arith) ∙ before p5 (0 + i) (omega arith) ∙ before p4 (0 + i) (omega arith) ∙ before p3 (0 + i) (omega arith) ∙ before p2 (0 + i) (omega arith) ∙ before p1 (0 + i) (omega arith) ∙ p0 .here i h in
     let e1 : getD t8 (1024 + i) nan ≡ read (ls .minimum) i = before p7 (1024 + i) (omega arith) ∙ before p6 (1024 + i) (omega arith) ∙ before p5 (1024 + i) (omega arith) ∙ before p4 (1024 + i) (omega arith) ∙ before p3 (1024 + i) (omega arith) ∙ before p2 (1024 + i) (omega arith) ∙ p1 .here i (omega (arith, even .minimum)) in
-    let e2 : getD t8 (2048 + i) nan ≡ readWhere (ls .maximum) (ls .has) 1 (inf false) i = before p7 (2048 + i) (omega arith) ∙ before p6 (2048 + i) (omega arith) ∙ before p5 (2048 + i) (omega arith) ∙ before p4 (2048 + i) (omega arith) ∙ before p3 (2048 + i) (omega arith) ∙ p2 .here i (omega (arith, even .maximum)) ∙ ap (λ (y : Float). readWhere (ls .maximum) (ls .has) 1 y i) inf-is in
+    let e2 : getD t8 (2048 + i) nan ≡ readWhere (ls .maximum) (ls .has-maximum) 1 (inf false) i = before p7 (2048 + i) (omega arith) ∙ before p6 (2048 + i) (omega arith) ∙ before p5 (2048 + i) (omega arith) ∙ before p4 (2048 + i) (omega arith) ∙ before p3 (2048 + i) (omega arith) ∙ p2 .here i (omega (arith, even .maximum)) ∙ ap (λ (y : Float). readWhere (ls .maximum) (ls .has-maximum) 1 y i) inf-is in
     let e3 : getD t8 (3072 + i) nan ≡ read (ls .edges) i = before p7 (3072 + i) (omega arith) ∙ before p6 (3072 + i) (omega arith) ∙ before p5 (3072 + i) (omega arith) ∙ before p4 (3072 + i) (omega arith) ∙ p3 .here i (omega (arith, even .edges)) in
     let e4 : getD t8 (4096 + i) nan ≡ read (ls .grow) i = before p7 (4096 + i) (omega arith) ∙ before p6 (4096 + i) (omega arith) ∙ before p5 (4096 + i) (omega arith) ∙ p4 .here i (omega (arith, even .grow)) in
     let e5 : getD t8 (5120 + i) nan ≡ read (ls .shrink) i = before p7 (5120 + i) (omega arith) ∙ before p6 (5120 + i) (omega arith) ∙ p5 .here i (omega (arith, even .shrink)) in

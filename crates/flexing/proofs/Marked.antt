@@ -43,10 +43,10 @@ container-is x y a b r p q e = e ∙ ap₂ min p (q ∙ sym (least-one y 0 (lit�
 module _ (inner gap : Float) (ls : Lists) (even : Even ls) where
   -- all marks of a call
   pub input-is : (c p m s e a b r t : ℕ) → c ≡ leastOf (float Size inner ∷ float Size gap ∷ []) 0 → p ≡ several (plainAt (ls .base) (ls .minimum) (ls .edges) (ls .grow) (ls .shrink)) (count ls)
-      → m ≡ several (besideAt 1 (float Size) (ls .maximum) (ls .has)) (length (ls .maximum)) → s ≡ several (besideAt 0 (float Margin) (ls .start) (ls .auto-start)) (length (ls .start))
+      → m ≡ several (besideAt 1 (float Size) (ls .maximum) (ls .has-maximum)) (length (ls .maximum)) → s ≡ several (besideAt 0 (float Margin) (ls .start) (ls .auto-start)) (length (ls .start))
       → e ≡ several (besideAt 0 (float Margin) (ls .end) (ls .auto-end)) (length (ls .end)) → a ≡ min s e → b ≡ min m a → r ≡ min p b → t ≡ min c r → t ≡ leastMark (inputOf inner gap ls)
   input-is c p m s e a b r t hc hp hm hs he ha hb hr ht =
-      let M = besideAt 1 (float Size) (ls .maximum) (ls .has) in
+      let M = besideAt 1 (float Size) (ls .maximum) (ls .has-maximum) in
       let S = besideAt 0 (float Margin) (ls .start) (ls .auto-start) in
       let E = besideAt 0 (float Margin) (ls .end) (ls .auto-end) in
       let n = count ls in

@@ -26,7 +26,7 @@ pub record Lists : Type 0 where
   pub minimum : List Float
   pub maximum : List Float
   -- 0 absent, 1 given
-  pub has : List ℕ
+  pub has-maximum : List ℕ
   -- padding plus border
   pub edges : List Float
   pub grow : List Float
@@ -38,7 +38,7 @@ pub record Lists : Type 0 where
   pub auto-end : List ℕ
 
 abbrev pub lists : List Float → List Float → List Float → List ℕ → List Float → List Float → List Float → List Float → List Float → List ℕ → List ℕ → Lists
-lists b l h k e g s x y u v = record { base = b; minimum = l; maximum = h; has = k; edges = e; grow = g; shrink = s; start = x; end = y; auto-start = u; auto-end = v }
+lists b l h k e g s x y u v = record { base = b; minimum = l; maximum = h; has-maximum = k; edges = e; grow = g; shrink = s; start = x; end = y; auto-start = u; auto-end = v }
 
 abbrev pub count : Lists → ℕ
 count ls = length (ls .base)
@@ -56,7 +56,7 @@ abbrev pub itemAt : Lists → ℕ → Item
 itemAt ls i = record {
   base = read (ls .base) i;
   minimum = read (ls .minimum) i;
-  maximum = readWhere (ls .maximum) (ls .has) 1 (inf false) i;
+  maximum = readWhere (ls .maximum) (ls .has-maximum) 1 (inf false) i;
   edges = read (ls .edges) i;
   grow = read (ls .grow) i;
   shrink = read (ls .shrink) i;
@@ -76,7 +76,7 @@ itemsOf ls = each (count ls) (itemAt ls)
 
 abbrev pub lengths : Lists → List ℕ
 lengths ls =
-    length (ls .base) ∷ length (ls .minimum) ∷ length (ls .maximum) ∷ length (ls .has) ∷ length (ls .edges) ∷ length (ls .grow) ∷ length (ls .shrink) ∷ length (ls .start) ∷ length (ls .end) ∷ length (ls .auto-start) ∷ length (ls .auto-end) ∷ []
+    length (ls .base) ∷ length (ls .minimum) ∷ length (ls .maximum) ∷ length (ls .has-maximum) ∷ length (ls .edges) ∷ length (ls .grow) ∷ length (ls .shrink) ∷ length (ls .start) ∷ length (ls .end) ∷ length (ls .auto-start) ∷ length (ls .auto-end) ∷ []
 
 abbrev pub longest : List ℕ → ℕ
 longest [] = 0
@@ -105,7 +105,7 @@ abbrev pub inputOf : Float → Float → Lists → Input
 inputOf inner gap ls = record {
   container = float Size inner ∷ float Size gap ∷ [];
   count = count ls;
-  item = λ i. plainAt (ls .base) (ls .minimum) (ls .edges) (ls .grow) (ls .shrink) i ++ (besideAt 1 (float Size) (ls .maximum) (ls .has) i ++ (besideAt 0 (float Margin) (ls .start) (ls .auto-start) i ++ besideAt 0 (float Margin) (ls .end) (ls .auto-end) i));
+  item = λ i. plainAt (ls .base) (ls .minimum) (ls .edges) (ls .grow) (ls .shrink) i ++ (besideAt 1 (float Size) (ls .maximum) (ls .has-maximum) i ++ (besideAt 0 (float Margin) (ls .start) (ls .auto-start) i ++ besideAt 0 (float Margin) (ls .end) (ls .auto-end) i));
 }
 
 -- ---- checks 1 to 6 of a call with so much room

@@ -118,7 +118,7 @@ pub record Even (ls : Lists) : Type 0 where
   pub few : count ls ≤ 1024
   pub minimum : length (ls .minimum) ≡ count ls
   pub maximum : length (ls .maximum) ≡ count ls
-  pub has : length (ls .has) ≡ count ls
+  pub has-maximum : length (ls .has-maximum) ≡ count ls
   pub edges : length (ls .edges) ≡ count ls
   pub grow : length (ls .grow) ≡ count ls
   pub shrink : length (ls .shrink) ≡ count ls

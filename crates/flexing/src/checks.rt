@@ -44,7 +44,7 @@ pub fn check_lengths(
     base: usize,
     minimum: usize,
     maximum: usize,
-    has: usize,
+    has_maximum: usize,
     edges: usize,
     grow: usize,
     shrink: usize,
@@ -54,7 +54,7 @@ pub fn check_lengths(
     auto_end: usize,
     room: usize,
 ) -> Verdict
-    ensures { λ r. ⌜ r ≡ shape (longest (base ∷ minimum ∷ maximum ∷ has ∷ edges ∷ grow ∷ shrink ∷ start ∷ end ∷ «auto_start» ∷ «auto_end» ∷ [])) (leb base room && alike base (base ∷ minimum ∷ maximum ∷ has ∷ edges ∷ grow ∷ shrink ∷ start ∷ end ∷ «auto_start» ∷ «auto_end» ∷ [])) ⌝ }
+    ensures { λ r. ⌜ r ≡ shape (longest (base ∷ minimum ∷ maximum ∷ «has_maximum» ∷ edges ∷ grow ∷ shrink ∷ start ∷ end ∷ «auto_start» ∷ «auto_end» ∷ [])) (leb base room && alike base (base ∷ minimum ∷ maximum ∷ «has_maximum» ∷ edges ∷ grow ∷ shrink ∷ start ∷ end ∷ «auto_start» ∷ «auto_end» ∷ [])) ⌝ }
 {
     let longest = longer(
         base,
@@ -63,7 +63,7 @@ pub fn check_lengths(
             longer(
                 maximum,
                 longer(
-                    has,
+                    has_maximum,
                     longer(
                         edges,
                         longer(
@@ -88,7 +88,7 @@ pub fn check_lengths(
                 maximum,
                 base,
                 is_alike(
-                    has,
+                    has_maximum,
                     base,
                     is_alike(
                         edges,
@@ -154,7 +154,7 @@ pub fn check_numbers<'a>(
     base: &'a [f32],
     minimum: &'a [f32],
     maximum: &'a [f32],
-    has: &'a [u32],
+    has_maximum: &'a [u32],
     edges: &'a [f32],
     grow: &'a [f32],
     shrink: &'a [f32],
@@ -163,15 +163,15 @@ pub fn check_numbers<'a>(
     auto_start: &'a [u32],
     auto_end: &'a [u32],
 ) -> Verdict
-    requires { ⌜ Even (lists (now base) (now minimum) (now maximum) (now has) (now edges) (now grow) (now shrink) (now start) (now end) (now «auto_start») (now «auto_end»)) ⌝ }
-    ensures { λ r. ⌜ r ≡ judged (leastMark (inputOf inner gap (lists (now (base .entry)) (now (minimum .entry)) (now (maximum .entry)) (now (has .entry)) (now (edges .entry)) (now (grow .entry)) (now (shrink .entry)) (now (start .entry)) (now (end .entry)) (now («auto_start» .entry)) (now («auto_end» .entry))))) ⌝ }
+    requires { ⌜ Even (lists (now base) (now minimum) (now maximum) (now «has_maximum») (now edges) (now grow) (now shrink) (now start) (now end) (now «auto_start») (now «auto_end»)) ⌝ }
+    ensures { λ r. ⌜ r ≡ judged (leastMark (inputOf inner gap (lists (now (base .entry)) (now (minimum .entry)) (now (maximum .entry)) (now («has_maximum» .entry)) (now (edges .entry)) (now (grow .entry)) (now (shrink .entry)) (now (start .entry)) (now (end .entry)) (now («auto_start» .entry)) (now («auto_end» .entry))))) ⌝ }
 {
     let container = least(
         mark_float(Kind::Size, inner, 0),
         mark_float(Kind::Size, gap, 0),
     );
     let plain = mark_plain(base, minimum, edges, grow, shrink);
-    let maxima = mark_beside(Kind::Size, maximum, has, 1);
+    let maxima = mark_beside(Kind::Size, maximum, has_maximum, 1);
     let starts = mark_beside(Kind::Margin, start, auto_start, 0);
     let ends = mark_beside(Kind::Margin, end, auto_end, 0);
     judge(least(container, least(plain, least(maxima, least(starts, ends)))))

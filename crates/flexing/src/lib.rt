@@ -87,7 +87,7 @@ fn flex_checked<'a>(
     base: &'a [f32],
     minimum: &'a [f32],
     maximum: &'a [f32],
-    has: &'a [u32],
+    has_maximum: &'a [u32],
     edges: &'a [f32],
     grow: &'a [f32],
     shrink: &'a [f32],
@@ -97,15 +97,15 @@ fn flex_checked<'a>(
     auto_end: &'a [u32],
     targets: &mut [f32],
 ) -> FlexAnswer
-    requires { ⌜ Checked inner gap (lists (now base) (now minimum) (now maximum) (now has) (now edges) (now grow) (now shrink) (now start) (now end) (now «auto_start») (now «auto_end»)) (now targets) ⌝ }
-    ensures { λ r. ⌜ Answered (summed (outerSum (cleaned gap) (itemsOf (lists (now (base .entry)) (now (minimum .entry)) (now (maximum .entry)) (now (has .entry)) (now (edges .entry)) (now (grow .entry)) (now (shrink .entry)) (now (start .entry)) (now (end .entry)) (now («auto_start» .entry)) (now («auto_end» .entry)))))) (cleaned inner) (cleaned gap) (itemsOf (lists (now (base .entry)) (now (minimum .entry)) (now (maximum .entry)) (now (has .entry)) (now (edges .entry)) (now (grow .entry)) (now (shrink .entry)) (now (start .entry)) (now (end .entry)) (now («auto_start» .entry)) (now («auto_end» .entry)))) r (now (targets .entry)) (now (targets .exit)) ⌝ }
+    requires { ⌜ Checked inner gap (lists (now base) (now minimum) (now maximum) (now «has_maximum») (now edges) (now grow) (now shrink) (now start) (now end) (now «auto_start») (now «auto_end»)) (now targets) ⌝ }
+    ensures { λ r. ⌜ Answered (summed (outerSum (cleaned gap) (itemsOf (lists (now (base .entry)) (now (minimum .entry)) (now (maximum .entry)) (now («has_maximum» .entry)) (now (edges .entry)) (now (grow .entry)) (now (shrink .entry)) (now (start .entry)) (now (end .entry)) (now («auto_start» .entry)) (now («auto_end» .entry)))))) (cleaned inner) (cleaned gap) (itemsOf (lists (now (base .entry)) (now (minimum .entry)) (now (maximum .entry)) (now («has_maximum» .entry)) (now (edges .entry)) (now (grow .entry)) (now (shrink .entry)) (now (start .entry)) (now (end .entry)) (now («auto_start» .entry)) (now («auto_end» .entry)))) r (now (targets .entry)) (now (targets .exit)) ⌝ }
 {
     let mut table = [0.0; 8192];
     table::read_items(
         base,
         minimum,
         maximum,
-        has,
+        has_maximum,
         edges,
         grow,
         shrink,
@@ -131,7 +131,7 @@ fn check_line<'a>(
     base: &'a [f32],
     minimum: &'a [f32],
     maximum: &'a [f32],
-    has: &'a [u32],
+    has_maximum: &'a [u32],
     edges: &'a [f32],
     grow: &'a [f32],
     shrink: &'a [f32],
@@ -141,13 +141,13 @@ fn check_line<'a>(
     auto_end: &'a [u32],
     room: usize,
 ) -> Verdict
-    ensures { λ r. ⌜ r ≡ then (shapeOf (lists (now (base .entry)) (now (minimum .entry)) (now (maximum .entry)) (now (has .entry)) (now (edges .entry)) (now (grow .entry)) (now (shrink .entry)) (now (start .entry)) (now (end .entry)) (now («auto_start» .entry)) (now («auto_end» .entry))) room) (judged (leastMark (inputOf inner gap (lists (now (base .entry)) (now (minimum .entry)) (now (maximum .entry)) (now (has .entry)) (now (edges .entry)) (now (grow .entry)) (now (shrink .entry)) (now (start .entry)) (now (end .entry)) (now («auto_start» .entry)) (now («auto_end» .entry)))))) ⌝ }
+    ensures { λ r. ⌜ r ≡ then (shapeOf (lists (now (base .entry)) (now (minimum .entry)) (now (maximum .entry)) (now («has_maximum» .entry)) (now (edges .entry)) (now (grow .entry)) (now (shrink .entry)) (now (start .entry)) (now (end .entry)) (now («auto_start» .entry)) (now («auto_end» .entry))) room) (judged (leastMark (inputOf inner gap (lists (now (base .entry)) (now (minimum .entry)) (now (maximum .entry)) (now («has_maximum» .entry)) (now (edges .entry)) (now (grow .entry)) (now (shrink .entry)) (now (start .entry)) (now (end .entry)) (now («auto_start» .entry)) (now («auto_end» .entry)))))) ⌝ }
 {
     let v = checks::check_lengths(
         base.len(),
         minimum.len(),
         maximum.len(),
-        has.len(),
+        has_maximum.len(),
         edges.len(),
         grow.len(),
         shrink.len(),
@@ -165,7 +165,7 @@ fn check_line<'a>(
             base,
             minimum,
             maximum,
-            has,
+            has_maximum,
             edges,
             grow,
             shrink,
@@ -177,7 +177,7 @@ fn check_line<'a>(
     }
 }
 
-// Flexes one line: the n items of the lists, in a container of that inner main size and gap. `has` says 1 where an item has a maximum, and
+// Flexes one line: the n items of the lists, in a container of that inner main size and gap. `has_maximum` says 1 where an item has a maximum, and
 // `auto_start` and `auto_end` 1 where its margin is auto, which counts as 0 here. The targets are written to the first n cells.
 pub fn flex_line<'a>(
     inner: f32,
@@ -185,7 +185,7 @@ pub fn flex_line<'a>(
     base: &'a [f32],
     minimum: &'a [f32],
     maximum: &'a [f32],
-    has: &'a [u32],
+    has_maximum: &'a [u32],
     edges: &'a [f32],
     grow: &'a [f32],
     shrink: &'a [f32],
@@ -195,7 +195,7 @@ pub fn flex_line<'a>(
     auto_end: &'a [u32],
     targets: &mut [f32],
 ) -> FlexAnswer
-    ensures { λ r. ⌜ FlexedLine inner gap (lists (now (base .entry)) (now (minimum .entry)) (now (maximum .entry)) (now (has .entry)) (now (edges .entry)) (now (grow .entry)) (now (shrink .entry)) (now (start .entry)) (now (end .entry)) (now («auto_start» .entry)) (now («auto_end» .entry))) r (now (targets .entry)) (now (targets .exit)) ⌝ }
+    ensures { λ r. ⌜ FlexedLine inner gap (lists (now (base .entry)) (now (minimum .entry)) (now (maximum .entry)) (now («has_maximum» .entry)) (now (edges .entry)) (now (grow .entry)) (now (shrink .entry)) (now (start .entry)) (now (end .entry)) (now («auto_start» .entry)) (now («auto_end» .entry))) r (now (targets .entry)) (now (targets .exit)) ⌝ }
 {
     let v = check_line(
         inner,
@@ -203,7 +203,7 @@ pub fn flex_line<'a>(
         base,
         minimum,
         maximum,
-        has,
+        has_maximum,
         edges,
         grow,
         shrink,
@@ -221,7 +221,7 @@ pub fn flex_line<'a>(
             base,
             minimum,
             maximum,
-            has,
+            has_maximum,
             edges,
             grow,
             shrink,

@@ -76,7 +76,7 @@ pub fn read_items<'a>(
     base: &'a [f32],
     minimum: &'a [f32],
     maximum: &'a [f32],
-    has: &'a [u32],
+    has_maximum: &'a [u32],
     edges: &'a [f32],
     grow: &'a [f32],
     shrink: &'a [f32],
@@ -86,12 +86,12 @@ pub fn read_items<'a>(
     auto_end: &'a [u32],
     table: &mut [f32; 8192],
 )
-    requires { ⌜ Even (lists (now base) (now minimum) (now maximum) (now has) (now edges) (now grow) (now shrink) (now start) (now end) (now «auto_start») (now «auto_end»)) × (length (now table) ≡ 8192) ⌝ }
-    ensures { λ _. ⌜ Held (lists (now (base .entry)) (now (minimum .entry)) (now (maximum .entry)) (now (has .entry)) (now (edges .entry)) (now (grow .entry)) (now (shrink .entry)) (now (start .entry)) (now (end .entry)) (now («auto_start» .entry)) (now («auto_end» .entry))) (now (table .exit)) ⌝ }
+    requires { ⌜ Even (lists (now base) (now minimum) (now maximum) (now «has_maximum») (now edges) (now grow) (now shrink) (now start) (now end) (now «auto_start») (now «auto_end»)) × (length (now table) ≡ 8192) ⌝ }
+    ensures { λ _. ⌜ Held (lists (now (base .entry)) (now (minimum .entry)) (now (maximum .entry)) (now («has_maximum» .entry)) (now (edges .entry)) (now (grow .entry)) (now (shrink .entry)) (now (start .entry)) (now (end .entry)) (now («auto_start» .entry)) (now («auto_end» .entry))) (now (table .exit)) ⌝ }
 {
     store(base, 0, table);
     store(minimum, 1024, table);
-    store_where(maximum, has, 1, infinity(), 2048, table);
+    store_where(maximum, has_maximum, 1, infinity(), 2048, table);
     store(edges, 3072, table);
     store(grow, 4096, table);
     store(shrink, 5120, table);

@@ -16,7 +16,7 @@ use Rattle.flexing.proofs.checks.check_numbers.Reads as check-numbers-r
 
 -- the lists that the function is called with
 abbrev given : tie.Start → Lists
-given s = lists (now (s .args .base)) (now (s .args .minimum)) (now (s .args .maximum)) (now (s .args .has)) (now (s .args .edges)) (now (s .args .grow)) (now (s .args .shrink)) (now (s .args .start)) (now (s .args .end)) (now (s .args .auto-start)) (now (s .args .auto-end))
+given s = lists (now (s .args .base)) (now (s .args .minimum)) (now (s .args .maximum)) (now (s .args .has-maximum)) (now (s .args .edges)) (now (s .args .grow)) (now (s .args .shrink)) (now (s .args .start)) (now (s .args .end)) (now (s .args .auto-start)) (now (s .args .auto-end))
 
 check-lengths-requires : tie.Need-check-lengths-requires
 check-lengths-requires c κs = search needs

@@ -16,7 +16,7 @@ use Rattle.grid.proofs.clean.Reads as clean-reads
 
 -- the lists that the function is called with
 abbrev given : tie.Start → Lists
-given s = lists (now (s .args .base)) (now (s .args .minimum)) (now (s .args .maximum)) (now (s .args .has)) (now (s .args .edges)) (now (s .args .grow)) (now (s .args .shrink)) (now (s .args .start)) (now (s .args .end)) (now (s .args .auto-start)) (now (s .args .auto-end))
+given s = lists (now (s .args .base)) (now (s .args .minimum)) (now (s .args .maximum)) (now (s .args .has-maximum)) (now (s .args .edges)) (now (s .args .grow)) (now (s .args .shrink)) (now (s .args .start)) (now (s .args .end)) (now (s .args .auto-start)) (now (s .args .auto-end))
 
 read-items-requires : tie.Need-read-items-requires
 read-items-requires c κs = search needs

@@ -19,7 +19,7 @@ use Rattle.refusal.proofs.mark_float.Reads as mark-float-reads
 
 -- the lists that the function is called with
 abbrev given : tie.Start → Lists
-given s = lists (now (s .args .base)) (now (s .args .minimum)) (now (s .args .maximum)) (now (s .args .has)) (now (s .args .edges)) (now (s .args .grow)) (now (s .args .shrink)) (now (s .args .start)) (now (s .args .end)) (now (s .args .auto-start)) (now (s .args .auto-end))
+given s = lists (now (s .args .base)) (now (s .args .minimum)) (now (s .args .maximum)) (now (s .args .has-maximum)) (now (s .args .edges)) (now (s .args .grow)) (now (s .args .shrink)) (now (s .args .start)) (now (s .args .end)) (now (s .args .auto-start)) (now (s .args .auto-end))
 
 mark-float-requires : tie.Need-mark-float-requires
 mark-float-requires c κs = search needs
