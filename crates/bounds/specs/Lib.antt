@@ -1,0 +1,2 @@
+pub mod Flex
+pub mod Cells
