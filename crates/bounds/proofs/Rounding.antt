@@ -63,7 +63,7 @@ half n u U = go (compare (n % u * 2) u) (cmp (n % u * 2) u) (div-add-mod' n u) (
 size-mono : (a b : ℕ) → a ≤ b → size a ≤ size b
 size-mono a b h = size-le a (size b) (lt-of-le-of-lt h (size-lt b))
 
-kept-le : (p n den : ℕ) → kept p n den ≤ 2 ^ p
+pub kept-le : (p n den : ℕ) → kept p n den ≤ 2 ^ p
 kept-le p n den =
     let k = drop p n den in
     let u = den * 2 ^ k in
