@@ -235,3 +235,174 @@ sum-num {x} {y} p q h k = go x y (p .value) (q .value) h k
         (total s (m * up e * down d) t (n * up d * down e) (down e * down d) A B (mul-pos (down-pos e) (down-pos d))
         (left-of (m * up e) (down e) (down d) px A (v .1)) (right-of (n * up d) (down e) (down d) px B (w .1))
         (twice A B (under (fin i m e) s A v h) (under (fin j n d) t B w k)))))
+
+-- a number is on one side of 0 at most
+pub one-side : {x : Float} → Num x → (g : Bool) → (far g x ≡ 0) ⊎ (far (not g) x ≡ 0)
+one-side {x} p g = go (p .sign) (p .digits * 2 ^ p .shift) (p .value) g
+  where
+    go : (s : Bool) (n : ℕ) → HasValue x s n px → (g : Bool) → (far g x ≡ 0) ⊎ (far (not g) x ≡ 0)
+    go true n v true = inr (far-is false x true n v)
+    go true n v false = inl (far-is false x true n v)
+    go false n v true = inl (far-is true x false n v)
+    go false n v false = inr (far-is true x false n v)
+
+-- ---- how far a sum is moved
+
+close : (E m M : ℕ) → E ≤ 16777216 * M → (16777216 * m ≤ 16777216 * E + E) × (16777216 * E ≤ 16777216 * m + E) → (m ≤ E + M) × (E ≤ m + M)
+close E m M h l = omega arith
+
+fl-close : (E M : ℕ) → E ≤ 16777216 * M → (fl E ≤ E + M) × (E ≤ fl E + M)
+fl-close E M h = close E (fl E) M h (fl-near E .0, fl-near E .1)
+
+pub fl-zero : fl 0 ≡ 0
+fl-zero = fl-none (fl 0) (fl-near 0 .0)
+  where
+    fl-none : (m : ℕ) → 16777216 * m ≤ 16777216 * 0 + 0 → m ≡ 0
+    fl-none m h = omega arith
+
+module _ {x y z : Float} (r : Sum x y z) where
+  -- by at most M, where it is at most 2 ^ 24 times that
+  pub sum-near : (M : ℕ) → ((g : Bool) → far g x + far g y ≤ 16777216 * M) → (g : Bool) → far g z + far (not g) x + far (not g) y ≤ far (not g) z + far g x + far g y + M
+  sum-near M h g = go (r .toward) g (r .exact) (r .sum-is) (r .here) (r .there)
+    where
+      toward : (zt zu xt yt xu yu E m : ℕ) → xt + yt ≡ xu + yu + E → zt ≡ m → zu ≡ 0 → m ≤ E + M → zt + xu + yu ≤ zu + xt + yt + M
+      toward zt zu xt yt xu yu E m a b c d = omega arith
+
+      away : (zt zu xt yt xu yu E m : ℕ) → xt + yt ≡ xu + yu + E → zt ≡ m → zu ≡ 0 → E ≤ m + M → zu + xt + yt ≤ zt + xu + yu + M
+      away zt zu xt yt xu yu E m a b c d = omega arith
+
+      bound : (t : Bool) (E : ℕ) → far t x + far t y ≡ far (not t) x + far (not t) y + E → (fl E ≤ E + M) × (E ≤ fl E + M)
+      bound t E e = fl-close E M (le-trans {m = far t x + far t y} (omega arith) (h t))
+
+      go : (t g : Bool) (E : ℕ) → far t x + far t y ≡ far (not t) x + far (not t) y + E → far t z ≡ fl E → far (not t) z ≡ 0 → far g z + far (not g) x + far (not g) y ≤ far (not g) z + far g x + far g y + M
+      go true true E e a b = toward (far true z) (far false z) (far true x) (far true y) (far false x) (far false y) E (fl E) e a b (bound true E e .0)
+      go false false E e a b = toward (far false z) (far true z) (far false x) (far false y) (far true x) (far true y) E (fl E) e a b (bound false E e .0)
+      go true false E e a b = away (far true z) (far false z) (far true x) (far true y) (far false x) (far false y) E (fl E) e a b (bound true E e .1)
+      go false true E e a b = away (far false z) (far true z) (far false x) (far false y) (far true x) (far true y) E (fl E) e a b (bound false E e .1)
+
+  -- it is on the side of the larger
+  pub sum-side : (g : Bool) → 0 < far g z → far (not g) x + far (not g) y < far g x + far g y
+  sum-side g h = go (r .toward) g (r .exact) (r .sum-is) (r .here) (r .there) h
+    where
+      more : (E m a b : ℕ) → 0 < m → 16777216 * m ≤ 16777216 * E + E → a ≡ b + E → b < a
+      more E m a b h l e = omega arith
+
+      no : (n : ℕ) → n ≡ 0 → 0 < n → ⊥
+      no n e h = omega arith
+
+      go : (t g : Bool) (E : ℕ) → far t x + far t y ≡ far (not t) x + far (not t) y + E → far t z ≡ fl E → far (not t) z ≡ 0 → 0 < far g z → far (not g) x + far (not g) y < far g x + far g y
+      go true true E e a b l = more E (fl E) (far true x + far true y) (far false x + far false y) (subst (λ (n : ℕ). 0 < n) a l) (fl-near E .0) e
+      go false false E e a b l = more E (fl E) (far false x + far false y) (far true x + far true y) (subst (λ (n : ℕ). 0 < n) a l) (fl-near E .0) e
+      go true false E e a b l = absurd (no (far false z) b l)
+      go false true E e a b l = absurd (no (far true z) b l)
+
+  -- of numbers above 0
+  pub sum-above : far true x ≡ 0 → far true y ≡ 0 → (far false z ≡ fl (far false x + far false y)) × (far true z ≡ 0)
+  sum-above p q = go (r .toward) (r .exact) (r .sum-is) (r .here) (r .there)
+    where
+      exactly : (a b c d E : ℕ) → c ≡ 0 → d ≡ 0 → a + b ≡ c + d + E → E ≡ a + b
+      exactly a b c d E p q e = omega arith
+
+      none : (a b c d E : ℕ) → c ≡ 0 → d ≡ 0 → c + d ≡ a + b + E → (a + b ≡ 0) × (E ≡ 0)
+      none a b c d E p q e = omega arith
+
+      go : (t : Bool) (E : ℕ) → far t x + far t y ≡ far (not t) x + far (not t) y + E → far t z ≡ fl E → far (not t) z ≡ 0 → (far false z ≡ fl (far false x + far false y)) × (far true z ≡ 0)
+      go false E e a b = (a ∙ ap fl (exactly (far false x) (far false y) (far true x) (far true y) E p q e), b)
+      go true E e a b =
+          let n = none (far false x) (far false y) (far true x) (far true y) E p q e in
+          (b ∙ sym (ap fl (n .0) ∙ fl-zero), a ∙ ap fl (n .1) ∙ fl-zero)
+
+  -- x and something toward g: no less than x, seen toward g
+  pub sum-keeps : Num x → (g : Bool) → far (not g) y ≡ 0 → far g x + far (not g) z ≤ far g z + far (not g) x
+  sum-keeps p g h = go (r .toward) g (r .exact) (r .sum-is) (r .here) (r .there) h (one-side p g) (held-num p g .stays) (held-num p (not g) .stays)
+    where
+      -- the exact sum is toward g
+      up-to : (zt zu xt xu yt yu E : ℕ) → xt + yt ≡ xu + yu + E → zt ≡ fl E → zu ≡ 0 → yu ≡ 0 → (xt ≡ 0) ⊎ (xu ≡ 0) → fl xt ≡ xt → xt + zu ≤ zt + xu
+      up-to zt zu xt xu yt yu E e a b h (inl n) k = omega arith
+      up-to zt zu xt xu yt yu E e a b h (inr n) k =
+          let m : fl xt ≤ fl E = fl-mono xt E (omega arith) in
+          omega arith
+
+      -- it is on the other side
+      down-to : (zt zu xt xu yt yu E : ℕ) → xu + yu ≡ xt + yt + E → zu ≡ fl E → zt ≡ 0 → yu ≡ 0 → (xt ≡ 0) ⊎ (xu ≡ 0) → fl xu ≡ xu → xt + zu ≤ zt + xu
+      down-to zt zu xt xu yt yu E e a b h (inl n) k =
+          let m : fl E ≤ fl xu = fl-mono E xu (omega arith) in
+          omega arith
+      down-to zt zu xt xu yt yu E e a b h (inr n) k =
+          let m : fl E ≤ fl xu = fl-mono E xu (omega arith) in
+          omega arith
+
+      go : (t g : Bool) (E : ℕ) → far t x + far t y ≡ far (not t) x + far (not t) y + E → far t z ≡ fl E → far (not t) z ≡ 0 → far (not g) y ≡ 0
+          → (far g x ≡ 0) ⊎ (far (not g) x ≡ 0) → fl (far g x) ≡ far g x → fl (far (not g) x) ≡ far (not g) x → far g x + far (not g) z ≤ far g z + far (not g) x
+      go true true E e a b h o k l = up-to (far true z) (far false z) (far true x) (far false x) (far true y) (far false y) E e a b h o k
+      go false false E e a b h o k l = up-to (far false z) (far true z) (far false x) (far true x) (far false y) (far true y) E e a b h o k
+      go true false E e a b h o k l = down-to (far false z) (far true z) (far false x) (far true x) (far false y) (far true y) E e a b h o l
+      go false true E e a b h o k l = down-to (far true z) (far false z) (far true x) (far false x) (far true y) (far false y) E e a b h o l
+
+-- ---- the other sign; the difference
+
+pub neg-num : {x : Float} → Num x → Num (neg x) × ((g : Bool) → far g (neg x) ≡ far (not g) x)
+unfolding neg
+neg-num {x} p =
+    let v : HasValue (neg x) (not (p .sign)) (p .digits * 2 ^ p .shift) px = turn x (p .sign) (p .digits * 2 ^ p .shift) (p .value) in
+    (record { sign = not (p .sign); digits = p .digits; shift = p .shift; few = p .few; value = v },
+     λ g. far-is g (neg x) (not (p .sign)) (p .digits * 2 ^ p .shift) v ∙ flip g (p .sign) (p .digits * 2 ^ p .shift) ∙ sym (far-is (not g) x (p .sign) (p .digits * 2 ^ p .shift) (p .value)))
+  where
+    turn : (x : Float) (s : Bool) (n : ℕ) → HasValue x s n px → HasValue (neg x) (not s) n px
+    turn nan s n v = v
+    turn (inf t) s n v = v
+    turn (fin t m e) s n v = (ap not (v .0), v .1)
+
+    flip : (g s : Bool) (n : ℕ) → side g (not s) n ≡ side (not g) s n
+    flip true true n = refl
+    flip true false n = refl
+    flip false true n = refl
+    flip false false n = refl
+
+-- ---- comparisons
+
+At-of : {x : Float} (p : Num x) → At px x (signed (p .sign) (p .digits * 2 ^ p .shift))
+At-of p = record { sign = p .sign; size = p .digits * 2 ^ p .shift; value = p .value; total = refl }
+
+less : (s : Bool) (A : ℕ) (t : Bool) (B : ℕ) → (T (ltZ (signed s A) (signed t B)) → side false s A + side true t B < side false t B + side true s A) × (T (not (ltZ (signed s A) (signed t B))) → side false t B + side true s A ≤ side false s A + side true t B)
+less false A false B = (λ t. to A B (ltb→lt A B t), λ t. back A B (nltb→le A B t))
+  where
+    to : (A B : ℕ) → A < B → A + 0 < B + 0
+    to A B h = omega arith
+
+    back : (A B : ℕ) → B ≤ A → B + 0 ≤ A + 0
+    back A B h = omega arith
+less false A true zero = (λ t. absurd (no (ltb→lt A 0 t)), λ t. omega arith)
+  where
+    no : A < 0 → ⊥
+    no h = omega arith
+less false A true (suc B) = (λ t. absurd t, λ t. omega arith)
+less true zero false B = (λ t. to B (ltb→lt 0 B t), λ t. back B (nltb→le 0 B t))
+  where
+    to : (B : ℕ) → 0 < B → 0 + 0 < B + 0
+    to B h = omega arith
+
+    back : (B : ℕ) → B ≤ 0 → B + 0 ≤ 0 + 0
+    back B h = omega arith
+less true (suc A) false B = (λ t. omega arith, λ t. absurd t)
+less true zero true zero = (λ t. absurd t, λ t. omega arith)
+less true zero true (suc B) = (λ t. absurd t, λ t. omega arith)
+less true (suc A) true zero = (λ t. omega arith, λ t. absurd t)
+less true (suc A) true (suc B) = (λ t. to A B (ltb→lt B A t), λ t. back A B (nltb→le B A t))
+  where
+    to : (A B : ℕ) → B < A → 0 + suc B < 0 + suc A
+    to A B h = omega arith
+
+    back : (A B : ℕ) → A ≤ B → 0 + suc A ≤ 0 + suc B
+    back A B h = omega arith
+
+pub lt-num : {x y : Float} → Num x → Num y → (T (lt x y) → far false x + far true y < far false y + far true x) × (T (not (lt x y)) → far false y + far true x ≤ far false x + far true y)
+lt-num {x} {y} p q =
+    let A = p .digits * 2 ^ p .shift in
+    let B = q .digits * 2 ^ q .shift in
+    subst (λ (b : Bool). (T b → far false x + far true y < far false y + far true x) × (T (not b) → far false y + far true x ≤ far false x + far true y)) (sym (lt-at px px-pos (At-of p) (At-of q)))
+    (subst (λ (n : ℕ). (T (ltZ (signed (p .sign) A) (signed (q .sign) B)) → n + far true y < far false y + far true x) × (T (not (ltZ (signed (p .sign) A) (signed (q .sign) B))) → far false y + far true x ≤ n + far true y)) (sym (far-is false x (p .sign) A (p .value)))
+    (subst (λ (n : ℕ). (T (ltZ (signed (p .sign) A) (signed (q .sign) B)) → side false (p .sign) A + far true y < far false y + n) × (T (not (ltZ (signed (p .sign) A) (signed (q .sign) B))) → far false y + n ≤ side false (p .sign) A + far true y)) (sym (far-is true x (p .sign) A (p .value)))
+    (subst (λ (n : ℕ). (T (ltZ (signed (p .sign) A) (signed (q .sign) B)) → side false (p .sign) A + far true y < n + side true (p .sign) A) × (T (not (ltZ (signed (p .sign) A) (signed (q .sign) B))) → n + side true (p .sign) A ≤ side false (p .sign) A + far true y)) (sym (far-is false y (q .sign) B (q .value)))
+    (subst (λ (n : ℕ). (T (ltZ (signed (p .sign) A) (signed (q .sign) B)) → side false (p .sign) A + n < side false (q .sign) B + side true (p .sign) A) × (T (not (ltZ (signed (p .sign) A) (signed (q .sign) B))) → side false (q .sign) B + side true (p .sign) A ≤ side false (p .sign) A + n)) (sym (far-is true y (q .sign) B (q .value)))
+    (less (p .sign) A (q .sign) B)))))
