@@ -70,7 +70,7 @@ module _ (g : Bool) (a c : ℕ) (C : 0 < c) where
               (units-val binary32 g (kept 24 (a * 2 ^ 149) c) (drop 24 (a * 2 ^ 149) c) (lt-of-le-of-lt h (lit< tt))) in
       (record { sign = g; digits = kept 24 (a * 2 ^ 149) c; shift = drop 24 (a * 2 ^ 149) c; few = kept-le 24 (a * 2 ^ 149) c; value = v }, v)
 
-grid-same : (a b c d : ℕ) → 0 < b → 0 < d → a * d ≡ c * b → grid binary32 a b ≡ grid binary32 c d
+pub grid-same : (a b c d : ℕ) → 0 < b → 0 < d → a * d ≡ c * b → grid binary32 a b ≡ grid binary32 c d
 grid-same a b c d B D e = le-antisymm (grid-mono binary32 a b c d B D (le-of-eq e)) (grid-mono binary32 c d a b D B (le-of-eq (sym e)))
 
 -- 2 ^ -24 at most, of the number or of what it is rounded to
@@ -99,7 +99,7 @@ held-num {x} p g = record { stays = subst (λ (n : ℕ). fl n ≡ n) (sym (far-i
 
 -- ---- the sum
 
-small : (n : ℕ) → n ≤ 2 ^ 249 → fl n ≤ 2 ^ 250
+pub small : (n : ℕ) → n ≤ 2 ^ 249 → fl n ≤ 2 ^ 250
 small n h = go n (fl n) (2 ^ 249) (2 ^ 250) h (fl-near n .0) refl
   where
     go : (n m b c : ℕ) → n ≤ b → 16777216 * m ≤ 16777216 * n + n → c ≡ 2 * b → m ≤ c
@@ -114,11 +114,11 @@ pub record Sum (x y z : Float) : Type 0 where
   pub there : far (not toward) z ≡ 0
   pub num : Num z
 
-side-own : (g : Bool) (n : ℕ) → side g g n ≡ n
+pub side-own : (g : Bool) (n : ℕ) → side g g n ≡ n
 side-own true n = refl
 side-own false n = refl
 
-side-other : (g : Bool) (n : ℕ) → side (not g) g n ≡ 0
+pub side-other : (g : Bool) (n : ℕ) → side (not g) g n ≡ 0
 side-other true n = refl
 side-other false n = refl
 
@@ -186,7 +186,7 @@ total true X false Y c A B C ea eb h = go (ltb X Y) (ltb→lt X Y) (nltb→le X 
     go false l m = last (ltb Y X) (nltb→le Y X) (m tt)
 
 -- the size of a number, whichever its side
-both : (s : Bool) (n : ℕ) → side false s n + side true s n ≡ n
+pub both : (s : Bool) (n : ℕ) → side false s n + side true s n ≡ n
 both true n = zero-add n
 both false n = add-zero n
 
