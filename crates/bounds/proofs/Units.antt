@@ -280,6 +280,14 @@ module _ {x y z : Float} (r : Sum x y z) where
       go true false E e a b = away (far true z) (far false z) (far true x) (far true y) (far false x) (far false y) E (fl E) e a b (bound true E e .1)
       go false true E e a b = away (far false z) (far true z) (far false x) (far false y) (far true x) (far true y) E (fl E) e a b (bound false E e .1)
 
+  -- on either side it is at most the sum of that side, but for M
+  pub sum-under : (M : ℕ) → ((g : Bool) → far g x + far g y ≤ 16777216 * M) → (g : Bool) → far g z ≤ far g x + far g y + M
+  sum-under M h g = go (one-side (r .num) g) (sum-near M h g)
+    where
+      go : (far g z ≡ 0) ⊎ (far (not g) z ≡ 0) → far g z + far (not g) x + far (not g) y ≤ far (not g) z + far g x + far g y + M → far g z ≤ far g x + far g y + M
+      go (inl e) k = omega arith
+      go (inr e) k = omega arith
+
   -- it is on the side of the larger
   pub sum-side : (g : Bool) → 0 < far g z → far (not g) x + far (not g) y < far g x + far g y
   sum-side g h = go (r .toward) g (r .exact) (r .sum-is) (r .here) (r .there) h
