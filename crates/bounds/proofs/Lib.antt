@@ -5,3 +5,4 @@ pub mod Units
 pub mod Times
 pub mod Totals
 pub mod Clamp
+pub mod Turn

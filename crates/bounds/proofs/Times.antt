@@ -32,7 +32,7 @@ unfolding product
 product-mono a b c d h k = grid-mono binary32 (a * b) (px * px) (c * d) (px * px) px² px² (mul-le-mul-right (px * px) (mul-le-mul h k))
 
 -- by a factor of at most k
-product-le : (a b k : ℕ) → b ≤ k * px → product a b ≤ fl (k * a)
+pub product-le : (a b k : ℕ) → b ≤ k * px → product a b ≤ fl (k * a)
 unfolding product fl
 product-le a b k h = grid-mono binary32 (a * b) (px * px) (k * a) px px² px-pos
     (le-trans (mul-le-mul-right px (mul-le-mul-left a h)) (le-of-eq (re a k px)))
