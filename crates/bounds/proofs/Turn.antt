@@ -3,7 +3,7 @@ use mathlib.Core.Path.{_≡_, refl, sym, ap, ap₂, _∙_, subst}
 use mathlib.Core.Logic.{_⊎_, inl, inr}
 use mathlib.Core.Bool.{Bool, true, false, not, cond, _||_}
 use Prim.Native.Nat.{ℕ, zero, suc, _+_, _-_, _*_, _^_, _≤_, _<_, zero-le, min, max}
-use native.Mathlib.Nat.{le-refl, le-trans, le-of-eq, lt-irrefl, mul-le-mul-right, mul-le-mul-left, zero-mul}
+use native.Mathlib.Nat.{le-refl, le-trans, le-of-eq, lt-irrefl, mul-le-mul-right, mul-le-mul-left, zero-mul, zero-add}
 use native.Mathlib.Omega.{arith}
 use lib.Dec.{T, lit≤}
 use lib.Ieee.{Float, binary32, lt, eq, add, sub, mul, div, neg}
@@ -12,7 +12,7 @@ use Rattle.bounds.specs.declared.Share.{Share}
 use Rattle.bounds.specs.Flex.{raised, clamp, innerBase, factor, weight, flexed, violation, nought, _⊕_, _⊖_, _⊗_, _⊘_}
 use Rattle.bounds.proofs.Units.{px, px-pos, Num, far, fl, fl-near, held-num, one-side, neg-num, Sum, sum-num, sum-near, sum-under, sum-side, sum-keeps}
 use Rattle.bounds.proofs.Times.{product, product-mono, product-within, product-zero, product-le, Product, mul-num, quotient, quotient-within, Quotient, div-num, nought-num, eq-nought}
-use Rattle.bounds.proofs.Clamp.{Upto, Sizes, raised-num, bounded, bounded-under, clamp-num, floor, ceiling, raised-small, lowered-small}
+use Rattle.bounds.proofs.Clamp.{Upto, Sizes, raised-num, bounded, bounded-mono, bounded-under, clamp-num, floor, ceiling, raised-small, lowered-small}
 
 -- ---- what an item's numbers are
 
@@ -195,3 +195,111 @@ module _ (g : Bool) (sh : Share) (s : Shares g sh) (it : Item) (f : Fine it) (le
       go true b h = moved-none g it f
       go false true h = moved-none g it f
       go false false h = shared (positive (far false (sh .weights)) (far true (sh .weights)) (s .weights-above) (h tt))
+
+-- ---- the clamped size, and the violation
+
+-- an item in a round that shares out on the side g: c is the clamped size, v the violation
+pub record Turn (g : Bool) (d : ℕ) (it : Item) (x c v : Float) : Type 0 where
+  pub moved : Moved g d it x
+  pub clamped : Num c
+  pub clamped-above : far true c ≡ 0
+  pub clamped-is : far false c ≡ bounded it (far false x)
+  pub violated : Num v
+  pub violated-most : (h : Bool) → far h v ≤ d + 1048576 * px
+  pub balance : far (not g) v + far g c + far (not g) (it .base) ≤ far g v + far (not g) c + far g (it .base) + d + 384 * px
+  pub raised : 0 < far false v → ((b : ℕ) → far false c ≤ bounded it b) × (far false c ≤ 262144 * px)
+  pub lowered : 0 < far true v → ((b : ℕ) → bounded it b ≤ far false c) × (far false c ≤ 262144 * px)
+
+module _ (g : Bool) (d : ℕ) (it : Item) (x : Float) (f : Fine it) (m : Moved g d it x) (dm : d ≤ 1073741824 * px) where
+  all-x : far false x + far true x ≤ 1074004096 * px
+  all-x = go (far false x + far true x) (far false (it .base)) d px (m .whole) (f .sizes .base .most) dm
+    where
+      go : (a b d p : ℕ) → a ≤ b + d + 128 * p → b ≤ 262144 * p → d ≤ 1073741824 * p → a ≤ 1074004096 * p
+      go a b d p h k l = omega arith
+
+  some-x : far false x ≤ 1152921504606846976 * px
+  some-x = go (far false x) (far true x) px all-x
+    where
+      go : (a b p : ℕ) → a + b ≤ 1074004096 * p → a ≤ 1152921504606846976 * p
+      go a b p h = omega arith
+
+  pub turn : Turn g d it x (clamp it x) (clamp it x ⊖ x)
+  unfolding sub
+  turn =
+      let c = clamp-num (f .sizes) (m .num) some-x in
+      let n = neg-num (m .num) in
+      let cu : far false (clamp it x) ≤ far false x + 262144 * px = le-trans (le-of-eq (c .2)) (bounded-under (f .sizes) (far false x)) in
+      let r : Sum (clamp it x) (neg x) (add binary32 (clamp it x) (neg x)) = sum-num (c .0) (n .0)
+              (under 1074266240 (lit≤ tt) (fit (far false (clamp it x)) (far true (clamp it x)) (far false x) (far true x) px cu (c .1) all-x))
+              (under 1074004096 (lit≤ tt) (turned (far false (neg x)) (far true (neg x)) (far false x) (far true x) (1074004096 * px) (n .1 false) (n .1 true) all-x)) in
+      let h : (k : Bool) → far k (clamp it x) + far k (neg x) ≤ 16777216 * (256 * px) = λ k. by-side k (λ k. far k (clamp it x) + far k (neg x) ≤ 16777216 * (256 * px))
+              (fit-f (far false (clamp it x)) (far false (neg x)) (far false x) (far true x) px cu (n .1 false) all-x) (fit-t (far true (clamp it x)) (far true (neg x)) (far false x) (far true x) px (c .1) (n .1 true) all-x) in
+      let v : Float = add binary32 (clamp it x) (neg x) in
+      let w = m .whole in
+      let B = f .sizes .base .most in
+      record {
+        moved = m;
+        clamped = c .0;
+        clamped-above = c .1;
+        clamped-is = c .2;
+        violated = r .num;
+        violated-most = λ k. by-side k (λ k. far k v ≤ d + 1048576 * px)
+            (most-f (far false v) (far false (clamp it x)) (far false (neg x)) (far false x) (far true x) (far false (it .base)) d px (sum-under r (256 * px) h false) cu (n .1 false) w B)
+            (most-t (far true v) (far true (clamp it x)) (far true (neg x)) (far false x) (far true x) (far false (it .base)) d px (sum-under r (256 * px) h true) (c .1) (n .1 true) w B);
+        balance = weigh (far g v) (far (not g) v) (far g (clamp it x)) (far (not g) (clamp it x)) (far g (neg x)) (far (not g) (neg x)) (far g x) (far (not g) x) (far g (it .base)) (far (not g) (it .base)) d px
+            (sides g (λ k. sum-near r (256 * px) h k)) (n .1 g) (other g (n .1)) (m .near);
+        raised = λ l. lift (far false (clamp it x)) (far true (clamp it x)) (far false (neg x)) (far true (neg x)) (sum-side r false l) (n .1 false) (n .1 true) (c .1) (c .2) (one-side (m .num) true);
+        lowered = λ l. fall (far false (clamp it x)) (far true (clamp it x)) (far false (neg x)) (far true (neg x)) (sum-side r true l) (n .1 false) (n .1 true) (c .1) (c .2);
+      }
+    where
+      by-side : (k : Bool) (P : Bool → Type 0) → P false → P true → P k
+      by-side false P a b = a
+      by-side true P a b = b
+
+      fit : (c c' x x' p : ℕ) → c ≤ x + 262144 * p → c' ≡ 0 → x + x' ≤ 1074004096 * p → c + c' ≤ 1074266240 * p
+      fit c c' x x' p h e k = omega arith
+
+      turned : (n n' x x' b : ℕ) → n ≡ x' → n' ≡ x → x + x' ≤ b → n + n' ≤ b
+      turned n n' x x' b e e' h = omega arith
+
+      fit-f : (c n x x' p : ℕ) → c ≤ x + 262144 * p → n ≡ x' → x + x' ≤ 1074004096 * p → c + n ≤ 16777216 * (256 * p)
+      fit-f c n x x' p h e k = omega arith
+
+      fit-t : (c n x x' p : ℕ) → c ≡ 0 → n ≡ x → x + x' ≤ 1074004096 * p → c + n ≤ 16777216 * (256 * p)
+      fit-t c n x x' p h e k = omega arith
+
+      most-f : (v c n x x' b d p : ℕ) → v ≤ c + n + 256 * p → c ≤ x + 262144 * p → n ≡ x' → x + x' ≤ b + d + 128 * p → b ≤ 262144 * p → v ≤ d + 1048576 * p
+      most-f v c n x x' b d p h k e l o = omega arith
+
+      most-t : (v c n x x' b d p : ℕ) → v ≤ c + n + 256 * p → c ≡ 0 → n ≡ x → x + x' ≤ b + d + 128 * p → b ≤ 262144 * p → v ≤ d + 1048576 * p
+      most-t v c n x x' b d p h k e l o = omega arith
+
+      sides : (g : Bool) → ((k : Bool) → far k (add binary32 (clamp it x) (neg x)) + far (not k) (clamp it x) + far (not k) (neg x) ≤ far (not k) (add binary32 (clamp it x) (neg x)) + far k (clamp it x) + far k (neg x) + 256 * px)
+          → far (not g) (add binary32 (clamp it x) (neg x)) + far g (clamp it x) + far g (neg x) ≤ far g (add binary32 (clamp it x) (neg x)) + far (not g) (clamp it x) + far (not g) (neg x) + 256 * px
+      sides true h = h false
+      sides false h = h true
+
+      other : (g : Bool) → ((k : Bool) → far k (neg x) ≡ far (not k) x) → far (not g) (neg x) ≡ far g x
+      other true h = h false
+      other false h = h true
+
+      weigh : (v v' c c' n n' x x' b b' d p : ℕ) → v' + c + n ≤ v + c' + n' + 256 * p → n ≡ x' → n' ≡ x → x + b' ≤ x' + b + d + 128 * p → v' + c + b' ≤ v + c' + b + d + 384 * p
+      weigh v v' c c' n n' x x' b b' d p h e e' k = omega arith
+
+      lift : (c c' n n' : ℕ) → c' + n' < c + n → n ≡ far true x → n' ≡ far false x → c' ≡ 0 → c ≡ bounded it (far false x) → (far true x ≡ 0) ⊎ (far false x ≡ 0) → ((b : ℕ) → c ≤ bounded it b) × (c ≤ 262144 * px)
+      lift c c' n n' h e e' z k (inl o) =
+          let l : far false x < bounded it (far false x) = omega arith in
+          ((λ b. le-trans (le-of-eq k) (floor it (far false x) b l)), le-trans (le-of-eq k) (raised-small (f .sizes) (far false x) l))
+      lift c c' n n' h e e' z k (inr o) = go c k (far false x) o
+        where
+          -- a number below 0 becomes what 0 becomes
+          go : (c : ℕ) → c ≡ bounded it (far false x) → (a : ℕ) → far false x ≡ 0 → ((b : ℕ) → c ≤ bounded it b) × (c ≤ 262144 * px)
+          go c k a o = (
+            (λ b. le-trans (le-of-eq (k ∙ ap (λ (n : ℕ). bounded it n) o)) (bounded-mono it 0 b zero-le)),
+            le-trans (le-of-eq (k ∙ ap (λ (n : ℕ). bounded it n) o)) (le-trans (bounded-under (f .sizes) 0) (le-of-eq (zero-add (262144 * px)))),
+          )
+
+      fall : (c c' n n' : ℕ) → c + n < c' + n' → n ≡ far true x → n' ≡ far false x → c' ≡ 0 → c ≡ bounded it (far false x) → ((b : ℕ) → bounded it b ≤ c) × (c ≤ 262144 * px)
+      fall c c' n n' h e e' z k =
+          let l : bounded it (far false x) < far false x = omega arith in
+          ((λ b. le-trans (ceiling it (far false x) b l) (le-of-eq (sym k))), le-trans (le-of-eq k) (lowered-small (f .sizes) (far false x) some-x l))
