@@ -6,3 +6,5 @@ pub mod Times
 pub mod Totals
 pub mod Clamp
 pub mod Turn
+pub mod Parts
+pub mod Space

@@ -3,7 +3,7 @@
 use mathlib.Core.Path.{_≡_, refl, sym, ap, ap₂, _∙_, subst}
 use mathlib.Core.Logic.{_⊎_, inl, inr}
 use mathlib.Core.Bool.{Bool, true, false, not, cond}
-use mathlib.Core.List.{List, [], _∷_}
+use mathlib.Core.List.{List, [], _∷_, map}
 use Prim.Native.Nat.{ℕ, zero, suc, _+_, _-_, _*_, _^_, _≤_, _<_, zero-le}
 use native.Mathlib.Nat.{le-refl, le-trans, le-of-eq, zero-mul}
 use native.Mathlib.Omega.{arith}
@@ -34,6 +34,19 @@ count-long n (a ∷ l) = ap (λ (k : ℕ). n + k) (count-long n l) ∙ go (lengt
   where
     go : (k n : ℕ) → n + k * n ≡ suc k * n
     go k n = omega arith
+
+pub count-both : {A : Type 0} (f g : A → ℕ) (l : List A) → count (λ a. f a + g a) l ≡ count f l + count g l
+unfolding count
+count-both f g [] = refl
+count-both f g (a ∷ l) = ap (λ (k : ℕ). f a + g a + k) (count-both f g l) ∙ go (f a) (g a) (count f l) (count g l)
+  where
+    go : (a b c d : ℕ) → a + b + (c + d) ≡ a + c + (b + d)
+    go a b c d = omega arith
+
+pub count-map : {A B : Type 0} (f : B → ℕ) (h : A → B) (l : List A) → count f (map h l) ≡ count (λ a. f (h a)) l
+unfolding count
+count-map f h [] = refl
+count-map f h (a ∷ l) = ap (λ (k : ℕ). f (h a) + k) (count-map f h l)
 
 -- ---- numbers of either sign
 

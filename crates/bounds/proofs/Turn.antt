@@ -207,7 +207,7 @@ pub record Turn (g : Bool) (d : ℕ) (it : Item) (x c v : Float) : Type 0 where
   pub violated : Num v
   pub violated-most : (h : Bool) → far h v ≤ d + 1048576 * px
   pub balance : far (not g) v + far g c + far (not g) (it .base) ≤ far g v + far (not g) c + far g (it .base) + d + 384 * px
-  pub raised : 0 < far false v → ((b : ℕ) → far false c ≤ bounded it b) × (far false c ≤ 262144 * px)
+  pub raised : 0 < far false v → ((b : ℕ) → far false c ≤ bounded it b) × (far false c ≤ 262144 * px) × (far false x ≤ far false c)
   pub lowered : 0 < far true v → ((b : ℕ) → bounded it b ≤ far false c) × (far false c ≤ 262144 * px)
 
 module _ (g : Bool) (d : ℕ) (it : Item) (x : Float) (f : Fine it) (m : Moved g d it x) (dm : d ≤ 1073741824 * px) where
@@ -286,17 +286,18 @@ module _ (g : Bool) (d : ℕ) (it : Item) (x : Float) (f : Fine it) (m : Moved g
       weigh : (v v' c c' n n' x x' b b' d p : ℕ) → v' + c + n ≤ v + c' + n' + 256 * p → n ≡ x' → n' ≡ x → x + b' ≤ x' + b + d + 128 * p → v' + c + b' ≤ v + c' + b + d + 384 * p
       weigh v v' c c' n n' x x' b b' d p h e e' k = omega arith
 
-      lift : (c c' n n' : ℕ) → c' + n' < c + n → n ≡ far true x → n' ≡ far false x → c' ≡ 0 → c ≡ bounded it (far false x) → (far true x ≡ 0) ⊎ (far false x ≡ 0) → ((b : ℕ) → c ≤ bounded it b) × (c ≤ 262144 * px)
+      lift : (c c' n n' : ℕ) → c' + n' < c + n → n ≡ far true x → n' ≡ far false x → c' ≡ 0 → c ≡ bounded it (far false x) → (far true x ≡ 0) ⊎ (far false x ≡ 0) → ((b : ℕ) → c ≤ bounded it b) × (c ≤ 262144 * px) × (far false x ≤ c)
       lift c c' n n' h e e' z k (inl o) =
           let l : far false x < bounded it (far false x) = omega arith in
-          ((λ b. le-trans (le-of-eq k) (floor it (far false x) b l)), le-trans (le-of-eq k) (raised-small (f .sizes) (far false x) l))
+          ((λ b. le-trans (le-of-eq k) (floor it (far false x) b l)), le-trans (le-of-eq k) (raised-small (f .sizes) (far false x) l), omega arith)
       lift c c' n n' h e e' z k (inr o) = go c k (far false x) o
         where
           -- a number below 0 becomes what 0 becomes
-          go : (c : ℕ) → c ≡ bounded it (far false x) → (a : ℕ) → far false x ≡ 0 → ((b : ℕ) → c ≤ bounded it b) × (c ≤ 262144 * px)
+          go : (c : ℕ) → c ≡ bounded it (far false x) → (a : ℕ) → far false x ≡ 0 → ((b : ℕ) → c ≤ bounded it b) × (c ≤ 262144 * px) × (far false x ≤ c)
           go c k a o = (
             (λ b. le-trans (le-of-eq (k ∙ ap (λ (n : ℕ). bounded it n) o)) (bounded-mono it 0 b zero-le)),
             le-trans (le-of-eq (k ∙ ap (λ (n : ℕ). bounded it n) o)) (le-trans (bounded-under (f .sizes) 0) (le-of-eq (zero-add (262144 * px)))),
+            le-trans (le-of-eq o) zero-le,
           )
 
       fall : (c c' n n' : ℕ) → c + n < c' + n' → n ≡ far true x → n' ≡ far false x → c' ≡ 0 → c ≡ bounded it (far false x) → ((b : ℕ) → bounded it b ≤ c) × (c ≤ 262144 * px)
