@@ -5,13 +5,19 @@ use mathlib.Core.Logic.{_⊎_, inl, inr}
 use mathlib.Core.Bool.{Bool, true, false, not, cond}
 use mathlib.Core.List.{List, [], _∷_, map}
 use Prim.Native.Nat.{ℕ, zero, suc, _+_, _-_, _*_, _^_, _≤_, _<_, zero-le}
-use native.Mathlib.Nat.{le-refl, le-trans, le-of-eq, zero-mul}
+use native.Mathlib.Nat.{le-refl, le-trans, le-of-eq, zero-mul, mul-le-mul-right}
 use native.Mathlib.Omega.{arith}
 use lib.ListN.{length}
 use lib.Ieee.{Float, binary32, add}
 use Rattle.bounds.specs.Flex.{sumFrom, _⊕_}
 use Rattle.bounds.proofs.Signs.{All}
 use Rattle.bounds.proofs.Units.{Num, far, fl, fl-near, fl-mono, held-num, one-side, Sum, sum-num, sum-near, sum-under, sum-above}
+
+-- ---- what holds of each of a list
+
+pub all-map : {A : Type 0} {P Q : A → Type 0} → ((a : A) → P a → Q a) → (l : List A) → All P l → All Q l
+all-map f [] h = tt
+all-map f (a ∷ l) h = (f a (h .0), all-map f l (h .1))
 
 -- ---- the exact sum of whole numbers over a list
 
@@ -34,6 +40,15 @@ count-long n (a ∷ l) = ap (λ (k : ℕ). n + k) (count-long n l) ∙ go (lengt
   where
     go : (k n : ℕ) → n + k * n ≡ suc k * n
     go k n = omega arith
+
+pub count-none : {A : Type 0} (f : A → ℕ) (l : List A) → All (λ a. f a ≡ 0) l → count f l ≡ 0
+unfolding count
+count-none f [] h = refl
+count-none f (a ∷ l) h = ap₂ (λ (m n : ℕ). m + n) (h .0) (count-none f l (h .1))
+
+-- at most n for each of at most k
+pub count-most : {A : Type 0} (f : A → ℕ) (n k : ℕ) (l : List A) → All (λ a. f a ≤ n) l → length l ≤ k → count f l ≤ k * n
+count-most f n k l h m = le-trans (count-all f (λ a. n) l h) (le-trans (le-of-eq (count-long n l)) (mul-le-mul-right n m))
 
 pub count-both : {A : Type 0} (f g : A → ℕ) (l : List A) → count (λ a. f a + g a) l ≡ count f l + count g l
 unfolding count
@@ -84,6 +99,13 @@ module _ {A : Type 0} (M : ℕ) (big : 33554432 * M ≤ 2 ^ 248) (f : A → Floa
 
       join : (t t' s s' a a' z z' c c' d : ℕ) → z + s' + a' ≤ z' + s + a + M → t + z' + c' ≤ t' + z + c + d → t + s' + (a' + c') ≤ t' + s + (a + c) + (M + d)
       join t t' s s' a a' z z' c c' d h k = omega arith
+
+  pub total-under : (s : Float) (l : List A) (z : Float) → Near s l z → (g : Bool) → far g z ≤ far g s + count (λ a. far g (f a)) l + count (λ a. M) l
+  total-under s l z r g = go (one-side (r .num) g) (far g z) (far (not g) z) (far g s) (far (not g) s) (count (λ a. far g (f a)) l) (count (λ a. far (not g) (f a)) l) (count (λ a. M) l) refl refl (r .near g)
+    where
+      go : (far g z ≡ 0) ⊎ (far (not g) z ≡ 0) → (z₁ z₂ s₁ s₂ c₁ c₂ d : ℕ) → far g z ≡ z₁ → far (not g) z ≡ z₂ → z₁ + s₂ + c₂ ≤ z₂ + s₁ + c₁ + d → z₁ ≤ s₁ + c₁ + d
+      go (inl e) z₁ z₂ s₁ s₂ c₁ c₂ d a b h = omega arith
+      go (inr e) z₁ z₂ s₁ s₂ c₁ c₂ d a b h = omega arith
 
   -- ---- numbers not below 0
 
