@@ -8,3 +8,4 @@ pub mod Clamp
 pub mod Turn
 pub mod Parts
 pub mod Space
+pub mod Limits
