@@ -9,3 +9,4 @@ pub mod Turn
 pub mod Parts
 pub mod Space
 pub mod Limits
+pub mod Settled
