@@ -171,3 +171,48 @@ module _ (g : Bool) (sh : Share) where
     where
       add : (a b c d e f q p A B C D E F Q P : ℕ) → a + b + c ≤ d + e + f + q + p → A + B + C ≤ D + E + F + Q + P → a + A + (b + B) + (c + C) ≤ d + D + (e + E) + (f + F) + (q + Q) + (p + P)
       add a b c d e f q p A B C D E F Q P h k = omega arith
+
+-- ---- the total of the violations
+
+pub violations-big : 33554432 * (512 * px) ≤ 2 ^ 248
+violations-big = under 17179869184 (lit≤ tt) (le-of-eq (re px))
+  where
+    re : (p : ℕ) → 33554432 * (512 * p) ≡ 17179869184 * p
+    re p = omega arith
+
+module _ (g : Bool) (sh : Share) (s : Shares g sh) (l : List Cell) (n : length l ≤ 1024) (ts : All (TurnOf g sh) l)
+    (w : 4096 * count (λ c. part g sh (c .item)) l ≤ 4097 * far g (sh .free) + 4096 * px) where
+  each-most : (h : Bool) (l : List Cell) → All (TurnOf g sh) l → count (λ c. far h (violation sh (c .item))) l ≤ count (λ c. part g sh (c .item)) l + length l * (1048576 * px)
+  unfolding count
+  each-most h [] ts = zero-le
+  each-most h (c ∷ l) ts = add (far h (violation sh (c .item))) (part g sh (c .item)) (count (λ c. far h (violation sh (c .item))) l) (count (λ c. part g sh (c .item)) l) (length l) px (ts .0 .violated-most h) (each-most h l (ts .1))
+    where
+      add : (v d V' D n p : ℕ) → v ≤ d + 1048576 * p → V' ≤ D + n * (1048576 * p) → v + V' ≤ d + D + suc n * (1048576 * p)
+      add v d V' D n p h k = omega arith
+
+  pub violations : Near (512 * px) violations-big (λ c. violation sh (c .item)) nought l (total (λ c. violation sh (c .item)) l)
+  violations = total-near (512 * px) violations-big (λ c. violation sh (c .item)) nought l (nought-num .0) (all-map (λ c t. t .violated) l ts)
+      (λ h. fits (far h nought) (count (λ c. far h (violation sh (c .item))) l) (count (λ c. part g sh (c .item)) l) (length l * (1048576 * px)) (count (λ c. 512 * px) l) (far g (sh .free)) px
+          (nought-num .1 h) (each-most h l ts) (mul-le-mul-right (1048576 * px) n) (le-trans (le-of-eq (count-long (512 * px) l)) (mul-le-mul-right (512 * px) n)) w (s .most))
+    where
+      fits : (o a d m k f p : ℕ) → o ≡ 0 → a ≤ d + m → m ≤ 1024 * (1048576 * p) → k ≤ 1024 * (512 * p) → 4096 * d ≤ 4097 * f + 4096 * p → f ≤ 1073741824 * p → o + a + k ≤ 16777216 * (512 * p)
+      fits o a d m k f p h i j l u q = omega arith
+
+  -- the clamped sizes against the bases and the parts, where the total is not on the side g
+  pub conserved : far g (total (λ c. violation sh (c .item)) l) ≡ 0
+      → count (λ c. far g (sized sh (c .item))) l + count (λ c. far (not g) (c .item .base)) l ≤ count (λ c. far (not g) (sized sh (c .item))) l + count (λ c. far g (c .item .base)) l + count (λ c. part g sh (c .item)) l + 917504 * px
+  conserved e = add (count (λ c. far (not g) (violation sh (c .item))) l) (count (λ c. far g (sized sh (c .item))) l) (count (λ c. far (not g) (c .item .base)) l)
+      (count (λ c. far g (violation sh (c .item))) l) (count (λ c. far (not g) (sized sh (c .item))) l) (count (λ c. far g (c .item .base)) l) (count (λ c. part g sh (c .item)) l) (count (λ c. 384 * px) l) (count (λ c. 512 * px) l)
+      (far g (total (λ c. violation sh (c .item)) l)) (far (not g) (total (λ c. violation sh (c .item)) l)) (far g nought) (far (not g) nought) px
+      (balances g sh l ts) (sides g (λ k. violations .near k)) e (nought-num .1 g) (nought-num .1 (not g))
+      (le-trans (le-of-eq (count-long (384 * px) l)) (mul-le-mul-right (384 * px) n)) (le-trans (le-of-eq (count-long (512 * px) l)) (mul-le-mul-right (512 * px) n))
+    where
+      sides : (g : Bool) → ((k : Bool) → far k (total (λ c. violation sh (c .item)) l) + far (not k) nought + count (λ c. far (not k) (violation sh (c .item))) l
+              ≤ far (not k) (total (λ c. violation sh (c .item)) l) + far k nought + count (λ c. far k (violation sh (c .item))) l + count (λ c. 512 * px) l)
+          → far (not g) (total (λ c. violation sh (c .item)) l) + far g nought + count (λ c. far g (violation sh (c .item))) l
+          ≤ far g (total (λ c. violation sh (c .item)) l) + far (not g) nought + count (λ c. far (not g) (violation sh (c .item))) l + count (λ c. 512 * px) l
+      sides true h = h false
+      sides false h = h true
+
+      add : (v' c b' v c' b d x y t t' o o' p : ℕ) → v' + c + b' ≤ v + c' + b + d + x → t' + o + v ≤ t + o' + v' + y → t ≡ 0 → o ≡ 0 → o' ≡ 0 → x ≤ 1024 * (384 * p) → y ≤ 1024 * (512 * p) → c + b' ≤ c' + b + d + 917504 * p
+      add v' c b' v c' b d x y t t' o o' p h k e f i j l = omega arith
