@@ -10,3 +10,4 @@ pub mod Parts
 pub mod Space
 pub mod Limits
 pub mod Settled
+pub mod Levels

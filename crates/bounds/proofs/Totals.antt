@@ -50,6 +50,26 @@ count-none f (a ∷ l) h = ap₂ (λ (m n : ℕ). m + n) (h .0) (count-none f l 
 pub count-most : {A : Type 0} (f : A → ℕ) (n k : ℕ) (l : List A) → All (λ a. f a ≤ n) l → length l ≤ k → count f l ≤ k * n
 count-most f n k l h m = le-trans (count-all f (λ a. n) l h) (le-trans (le-of-eq (count-long n l)) (mul-le-mul-right n m))
 
+pub count-same : {A : Type 0} (f g : A → ℕ) (l : List A) → ((a : A) → f a ≡ g a) → count f l ≡ count g l
+unfolding count
+count-same f g [] h = refl
+count-same f g (a ∷ l) h = ap₂ (λ (m n : ℕ). m + n) (h a) (count-same f g l h)
+
+-- where each f a is at most g a, one of them differs by no more than the sums do
+pub count-one : {A : Type 0} (f g : A → ℕ) (l : List A) → All (λ a. f a ≤ g a) l → All (λ a. g a + count f l ≤ f a + count g l) l
+unfolding count
+count-one f g [] h = tt
+count-one f g (a ∷ l) h = (
+  first (f a) (g a) (count f l) (count g l) (count-all f g l (h .1)),
+  all-map (λ b k. rest (f a) (g a) (f b) (g b) (count f l) (count g l) (h .0) k) l (count-one f g l (h .1)),
+)
+  where
+    first : (a b c d : ℕ) → c ≤ d → b + (a + c) ≤ a + (b + d)
+    first a b c d h = omega arith
+
+    rest : (a b x y c d : ℕ) → a ≤ b → y + c ≤ x + d → y + (a + c) ≤ x + (b + d)
+    rest a b x y c d h k = omega arith
+
 pub count-both : {A : Type 0} (f g : A → ℕ) (l : List A) → count (λ a. f a + g a) l ≡ count f l + count g l
 unfolding count
 count-both f g [] = refl
