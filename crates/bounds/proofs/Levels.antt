@@ -115,3 +115,134 @@ module _ (g k : Bool) (sh : Share) (t : Float) (c : Cell) (s : Sound k c) (turn 
       (λ e. subst (λ (b : Bool). P (cond b (far false (c .target)) (far false (sized sh (c .item)))) (cond b (far false (c .target)) (bounded (c .item) (far false (c .item .base))))) (sym e) (p (far false (c .target))))
       (λ e d. subst (λ (b : Bool). P (cond b (far false (c .target)) (far false (sized sh (c .item)))) (far false (sized sh (c .item)))) (sym e) (p (far false (sized sh (c .item)))))
       (λ e d. subst (λ (b : Bool). P (cond b (far false (c .target)) (far false (sized sh (c .item)))) (bounded (c .item) (far false (c .item .base)))) (sym e) (q e))
+
+-- ---- the whole line
+
+pub count-left : (q : Cell → ℕ) (l : List Cell) → count (λ c. cond (c .frozen) 0 (q c)) l ≡ count q (left l)
+count-left q l = count-split (λ c. 0) q l ∙ ap (λ (n : ℕ). n + count q (left l)) (count-none (λ c. cond (c .frozen) 0 0) l (nothing l)) ∙ zero-first (count q (left l))
+  where
+    zero-first : (n : ℕ) → 0 + n ≡ n
+    zero-first n = omega arith
+
+    nothing : (l : List Cell) → All (λ c. _≡_ {A = ℕ} (cond (c .frozen) 0 0) 0) l
+    nothing [] = tt
+    nothing (c ∷ l) = (go (c .frozen), nothing l)
+      where
+        go : (b : Bool) → _≡_ {A = ℕ} (cond b 0 0) 0
+        go true = refl
+        go false = refl
+
+-- from cell to line
+by-cells : (P Q : Cell → Type 0) (f h : Cell → ℕ) (l : List Cell) → ((c : Cell) → P c → Q c → f c ≤ h c) → All P l → All Q l → count f l ≤ count h l
+by-cells P Q f h l k p q = count-all f h l (all-map (λ c (r : P c × Q c). k c (r .0) (r .1)) l (all-both P Q l p q))
+
+-- bases against hypothetical sizes
+pub based-grows : (l : List Cell) → All (Sound true) l → count based l ≤ count ground l
+based-grows l ok = count-all based ground l (all-map (λ c s. by-frozen (λ a b. a ≤ b) c (far false (c .target)) (far false (c .item .base)) (bounded (c .item) (far false (c .item .base))) (λ e. le-refl (far false (c .target))) (λ e. s .way e)) l ok)
+
+pub based-shrinks : (l : List Cell) → All (Sound false) l → count ground l ≤ count based l
+based-shrinks l ok = count-all ground based l (all-map (λ c s. by-frozen (λ a b. a ≤ b) c (far false (c .target)) (bounded (c .item) (far false (c .item .base))) (far false (c .item .base)) (λ e. le-refl (far false (c .target))) (λ e. s .way e)) l ok)
+
+module _ (k : Bool) (sh : Share) (t : Float) (l : List Cell) (ok : All (Sound k) l) where
+  abbrev pub Turns : Bool → Type 0
+  Turns g = All (λ c. c .frozen ≡ false → TurnOf g sh c) l
+
+  after-map : (f : Cell → ℕ) → count f (map (settle sh t) l) ≡ count (λ c. f (settle sh t c)) l
+  after-map f = count-map f (settle sh t) l
+
+  pub sounds-up : (g : Bool) → Turns g → Up t → All (Sound k) (map (settle sh t) l)
+  sounds-up g ts u = go l ok ts
+    where
+      go : (l : List Cell) → All (Sound k) l → All (λ c. c .frozen ≡ false → TurnOf g sh c) l → All (Sound k) (map (settle sh t) l)
+      go [] h q = tt
+      go (c ∷ l) h q = (sound-up g k sh t c (h .0) (q .0) u, go l (h .1) (q .1))
+
+  pub sounds-down : (g : Bool) → Turns g → Down t → All (Sound k) (map (settle sh t) l)
+  sounds-down g ts u = go l ok ts
+    where
+      go : (l : List Cell) → All (Sound k) l → All (λ c. c .frozen ≡ false → TurnOf g sh c) l → All (Sound k) (map (settle sh t) l)
+      go [] h q = tt
+      go (c ∷ l) h q = (sound-down g k sh t c (h .0) (q .0) u, go l (h .1) (q .1))
+
+  pub grounds-up : (g : Bool) → Turns g → Up t → count ground (map (settle sh t) l) ≤ count ground l
+  grounds-up g ts u = le-trans (le-of-eq (after-map ground)) (by-cells (Sound k) (λ c. c .frozen ≡ false → TurnOf g sh c) (λ c. ground (settle sh t c)) ground l (λ c s q. ground-up g k sh t c s q u) ok ts)
+
+  pub grounds-down : (g : Bool) → Turns g → Down t → count ground l ≤ count ground (map (settle sh t) l)
+  grounds-down g ts u = le-trans (by-cells (Sound k) (λ c. c .frozen ≡ false → TurnOf g sh c) ground (λ c. ground (settle sh t c)) l (λ c s q. ground-down g k sh t c s q u) ok ts) (le-of-eq (sym (after-map ground)))
+
+  -- where the round shares out
+  pub out-ground : Turns false → count ground l ≤ count ground (map (settle sh t) l)
+  out-ground ts = le-trans (by-cells (Sound k) (λ c. c .frozen ≡ false → TurnOf false sh c) ground (λ c. ground (settle sh t c)) l
+      (λ c s q. grounds-by false k sh t c s q (λ a b. a ≤ b) (λ e. le-refl (far false (c .target))) (λ e d. up-size sh c (s .item) (q e)) (λ e. le-refl (bounded (c .item) (far false (c .item .base))))) ok ts) (le-of-eq (sym (after-map ground)))
+
+  pub out-final : Turns false → count ground (map (settle sh t) l) ≤ count (final sh) l
+  out-final ts = le-trans (le-of-eq (after-map ground)) (by-cells (Sound k) (λ c. c .frozen ≡ false → TurnOf false sh c) (λ c. ground (settle sh t c)) (final sh) l
+      (λ c s q. finals-by false k sh t c s q (λ a b. b ≤ a) le-refl (λ e. up-size sh c (s .item) (q e))) ok ts)
+
+  pub out-each : Turns false → All (λ c. ground c ≤ final sh c) l
+  out-each ts = all-map (λ c (r : Sound k c × (c .frozen ≡ false → TurnOf false sh c)). by-frozen (λ a b. a ≤ b) c (far false (c .target)) (bounded (c .item) (far false (c .item .base))) (far false (sized sh (c .item))) (λ e. le-refl (far false (c .target))) (λ e. up-size sh c (r .0 .item) (r .1 e))) l (all-both (Sound k) (λ c. c .frozen ≡ false → TurnOf false sh c) l ok ts)
+
+  -- where it takes back
+  pub back-ground : Turns true → count ground (map (settle sh t) l) ≤ count ground l
+  back-ground ts = le-trans (le-of-eq (after-map ground)) (by-cells (Sound k) (λ c. c .frozen ≡ false → TurnOf true sh c) (λ c. ground (settle sh t c)) ground l
+      (λ c s q. grounds-by true k sh t c s q (λ a b. b ≤ a) (λ e. le-refl (far false (c .target))) (λ e d. down-size sh c (s .item) (q e)) (λ e. le-refl (bounded (c .item) (far false (c .item .base))))) ok ts)
+
+  pub back-final : Turns true → count (final sh) l ≤ count ground (map (settle sh t) l)
+  back-final ts = le-trans (by-cells (Sound k) (λ c. c .frozen ≡ false → TurnOf true sh c) (final sh) (λ c. ground (settle sh t c)) l
+      (λ c s q. finals-by true k sh t c s q (λ a b. a ≤ b) le-refl (λ e. down-size sh c (s .item) (q e))) ok ts) (le-of-eq (sym (after-map ground)))
+
+  pub back-each : Turns true → All (λ c. final sh c ≤ ground c) l
+  back-each ts = all-map (λ c (r : Sound k c × (c .frozen ≡ false → TurnOf true sh c)). by-frozen (λ a b. a ≤ b) c (far false (c .target)) (far false (sized sh (c .item))) (bounded (c .item) (far false (c .item .base))) (λ e. le-refl (far false (c .target))) (λ e. down-size sh c (r .0 .item) (r .1 e))) l (all-both (Sound k) (λ c. c .frozen ≡ false → TurnOf true sh c) l ok ts)
+
+  -- where it takes back and freezes what is raised: no cell is less than before by more than its part
+  pub back-based : Turns true → Up t → count based l ≤ count based (map (settle sh t) l) + (count (λ c. part true sh (c .item)) (left l) + count (λ c. 128 * px) (left l))
+  back-based ts u =
+      le-trans (by-cells (Sound k) (λ c. c .frozen ≡ false → TurnOf true sh c) based (λ c. based (settle sh t c) + cond (c .frozen) 0 (part true sh (c .item) + 128 * px)) l cell ok ts)
+      (le-of-eq (count-both (λ c. based (settle sh t c)) (λ c. cond (c .frozen) 0 (part true sh (c .item) + 128 * px)) l
+      ∙ ap₂ (λ (a b : ℕ). a + b) (sym (after-map based)) (count-left (λ c. part true sh (c .item) + 128 * px) l ∙ count-both (λ c. part true sh (c .item)) (λ c. 128 * px) (left l))))
+    where
+      lost : (b b' x x' z d p : ℕ) → x' + b ≤ x + b' + d + p → b' ≡ 0 → x ≤ z → b ≤ z + (d + p)
+      lost b b' x x' z d p h e k = omega arith
+
+      more : (a b : ℕ) → a ≤ a + b
+      more a b = omega arith
+
+      cell : (c : Cell) → Sound k c → (c .frozen ≡ false → TurnOf true sh c) → based c ≤ based (settle sh t c) + cond (c .frozen) 0 (part true sh (c .item) + 128 * px)
+      cell c s q = settled sh t c (λ d. based c ≤ based d + cond (c .frozen) 0 (part true sh (c .item) + 128 * px))
+          (λ e. more (based c) (cond (c .frozen) 0 (part true sh (c .item) + 128 * px)))
+          (λ e d. subst (λ (b : Bool). cond b (far false (c .target)) (far false (c .item .base)) ≤ far false (sized sh (c .item)) + cond b 0 (part true sh (c .item) + 128 * px)) (sym e)
+              (lost (far false (c .item .base)) (far true (c .item .base)) (far false (Rattle.bounds.specs.Flex.flexed sh (c .item))) (far true (Rattle.bounds.specs.Flex.flexed sh (c .item))) (far false (sized sh (c .item))) (part true sh (c .item)) (128 * px)
+              (q e .moved .near) (s .item .sizes .base .above) (q e .raised (above-nought (q e .violated) (sym (u (violation sh (c .item))) ∙ d)) .2)))
+          (λ e d. subst (λ (b : Bool). cond b (far false (c .target)) (far false (c .item .base)) ≤ far false (c .item .base) + cond b 0 (part true sh (c .item) + 128 * px)) (sym e) (more (far false (c .item .base)) (part true sh (c .item) + 128 * px)))
+
+-- ---- what a round conserves, over the whole line
+
+module _ (sh : Share) (l : List Cell) (k : Bool) (ok : All (λ c. Sound k c × (c .frozen ≡ false)) (left l)) (d : ℕ) where
+  no-base : count (λ c. far true (c .item .base)) (left l) ≡ 0
+  no-base = count-none (λ c. far true (c .item .base)) (left l) (all-map (λ c (s : Sound k c × (c .frozen ≡ false)). s .0 .item .sizes .base .above) (left l) ok)
+
+  no-size : (g : Bool) → All (TurnOf g sh) (left l) → count (λ c. far true (sized sh (c .item))) (left l) ≡ 0
+  no-size g ts = count-none (λ c. far true (sized sh (c .item))) (left l) (all-map (λ c t. t .clamped-above) (left l) ts)
+
+  X : ℕ
+  X = count (λ c. cond (c .frozen) (far false (c .target)) 0) l
+
+  pub out-conserved : All (TurnOf false sh) (left l)
+      → count (λ c. far false (sized sh (c .item))) (left l) + count (λ c. far true (c .item .base)) (left l) ≤ count (λ c. far true (sized sh (c .item))) (left l) + count (λ c. far false (c .item .base)) (left l) + count (λ c. part false sh (c .item)) (left l) + d
+      → count (final sh) l ≤ count based l + (count (λ c. part false sh (c .item)) (left l) + d)
+  unfolding X
+  out-conserved ts h = go (count (final sh) l) (count based l) X (count (λ c. far false (sized sh (c .item))) (left l)) (count (λ c. far true (sized sh (c .item))) (left l)) (count (λ c. far false (c .item .base)) (left l)) (count (λ c. far true (c .item .base)) (left l)) (count (λ c. part false sh (c .item)) (left l))
+      (count-split (λ c. far false (c .target)) (λ c. far false (sized sh (c .item))) l) (count-split (λ c. far false (c .target)) (λ c. far false (c .item .base)) l) no-base (no-size false ts) h
+    where
+      go : (F B X z z' b b' s : ℕ) → F ≡ X + z → B ≡ X + b → b' ≡ 0 → z' ≡ 0 → z + b' ≤ z' + b + s + d → F ≤ B + (s + d)
+      go F B X z z' b b' s e f i j h = omega arith
+
+  pub back-conserved : All (TurnOf true sh) (left l)
+      → count (λ c. far true (sized sh (c .item))) (left l) + count (λ c. far false (c .item .base)) (left l) ≤ count (λ c. far false (sized sh (c .item))) (left l) + count (λ c. far true (c .item .base)) (left l) + count (λ c. part true sh (c .item)) (left l) + d
+      → count based l ≤ count (final sh) l + (count (λ c. part true sh (c .item)) (left l) + d)
+  unfolding X
+  back-conserved ts h = go (count (final sh) l) (count based l) X (count (λ c. far false (sized sh (c .item))) (left l)) (count (λ c. far true (sized sh (c .item))) (left l)) (count (λ c. far false (c .item .base)) (left l)) (count (λ c. far true (c .item .base)) (left l)) (count (λ c. part true sh (c .item)) (left l))
+      (count-split (λ c. far false (c .target)) (λ c. far false (sized sh (c .item))) l) (count-split (λ c. far false (c .target)) (λ c. far false (c .item .base)) l) no-base (no-size true ts) h
+    where
+      go : (F B X z z' b b' s : ℕ) → F ≡ X + z → B ≡ X + b → b' ≡ 0 → z' ≡ 0 → z' + b ≤ z + b' + s + d → B ≤ F + (s + d)
+      go F B X z z' b b' s e f i j h = omega arith
