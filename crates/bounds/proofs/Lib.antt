@@ -11,3 +11,4 @@ pub mod Space
 pub mod Limits
 pub mod Settled
 pub mod Levels
+pub mod Fewer
