@@ -12,3 +12,4 @@ pub mod Limits
 pub mod Settled
 pub mod Levels
 pub mod Fewer
+pub mod Step
