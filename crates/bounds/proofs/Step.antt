@@ -108,3 +108,85 @@ module _ (ln : Line) (n have used : ℕ) (fx : Fixed ln n) (cells : List Cell) (
       go : (far true (remaining (ln .inner) (ln .gap) cells) ≡ 0) ⊎ (far false (remaining (ln .inner) (ln .gap) cells) ≡ 0) → far false (remaining (ln .inner) (ln .gap) cells) ≤ 1073741824 * px → far true (remaining (ln .inner) (ln .gap) cells) ≤ 1073741824 * px → far false (remaining (ln .inner) (ln .gap) cells) + far true (remaining (ln .inner) (ln .gap) cells) ≤ 1073741824 * px
       go (inl e) h k = omega arith
       go (inr e) h k = omega arith
+
+  by-side : (g h : Bool) (x : Float) (k : ℕ) → far false x + far true x ≤ k → far g x ≤ k
+  by-side false h x k l = omega arith
+  by-side true h x k l = omega arith
+
+  shares : (g : Bool) → far (not g) (share ln cells .free) ≡ 0 → Shares g (share ln cells)
+  shares g e = record {
+    free = limit .num;
+    other = e;
+    most = by-side g g (share ln cells .free) (1073741824 * px) free-most;
+    weights = weighed .num;
+    weights-above = weighed .none;
+  }
+
+  each-weight : All (λ c. far false (weight (share ln cells .growing) (c .item)) ≤ far false (share ln cells .weights)) (left cells)
+  unfolding share
+  each-weight = weighed .each
+
+  weights-near : 16777216 * count (λ c. far false (weight (share ln cells .growing) (c .item))) (left cells) ≤ 16777216 * far false (share ln cells .weights) + length (left cells) * far false (share ln cells .weights)
+  unfolding share
+  weights-near = go (far false nought) (count (λ c. far false (weight (ln .growing) (c .item))) (left cells)) (far false W) (count (λ c. far false W) (left cells)) (length (left cells) * far false W) (weighed .nearly) (count-long (far false W) (left cells))
+    where
+      W : Float
+      W = total (λ c. weight (ln .growing) (c .item)) (left cells)
+
+      go : (o s w c m : ℕ) → 16777216 * (o + s) ≤ 16777216 * w + c → c ≡ m → 16777216 * s ≤ 16777216 * w + m
+      go o s w c m h e = omega arith
+
+  abbrev sh : Share
+  sh = share ln cells
+
+  abbrev t : Float
+  t = total (λ c. violation (share ln cells) (c .item)) (left cells)
+
+  abbrev cells' : List Cell
+  cells' = map (settle (share ln cells) (total (λ c. violation (share ln cells) (c .item)) (left cells))) cells
+
+  open-ok : All (λ c. Sound (ln .growing) c × (c .frozen ≡ false)) (left cells)
+  open-ok = all-left (Sound (ln .growing)) cells (kp .sound)
+
+  left-few : length (left cells) ≤ 1024
+  left-few = le-trans (left-short cells) short
+
+  -- ---- what the round gives
+
+  kept : All (Sound (ln .growing)) cells' → Tame ln cells' ⊎ Level (ln .growing) have used (count ground cells') → Kept ln n have used cells'
+  kept ok s = record {
+    long = long-map sh t cells ∙ kp .long;
+    have-is = ap (λ (k : ℕ). far false (ln .inner) + k) (items-same sh t (λ it. far true (margin it)) cells) ∙ kp .have-is;
+    used-is = ap (λ (k : ℕ). far false (gaps (ln .gap) n) + k) (items-same sh t (λ it. far false (margin it)) cells) ∙ kp .used-is;
+    sound = ok;
+    state = s;
+  }
+
+  tamer : Tame ln cells → Tame ln cells'
+  tamer m =
+      let le = fewer-factors (ln .growing) sh t cells (kp .sound) short in
+      record {
+        below = lt-of-le-of-lt le (m .below);
+        little = le-trans (add (product-mono (far false (ln .initial)) (factorSum ln cells') (far false (ln .initial)) (factorSum ln cells) (le-refl (far false (ln .initial))) le)
+            (product-mono (far true (ln .initial)) (factorSum ln cells') (far true (ln .initial)) (factorSum ln cells) (le-refl (far true (ln .initial))) le)) (m .little);
+      }
+    where
+      add : {a b c d : ℕ} → a ≤ b → c ≤ d → a + c ≤ b + d
+      add h k = native.Mathlib.Nat.add-le-add h k
+
+  done : ((v : Float) → freezes t v ≡ true) → ((c : Cell) → Sound (ln .growing) c → c .frozen ≡ false → Num (sized sh (c .item)) × (far true (sized sh (c .item)) ≡ 0))
+      → All (λ c. c .frozen ≡ false → Upto (16777216 * px) (sized sh (c .item))) cells → All Done cells'
+  done f z h = go cells (kp .sound) h
+    where
+      wide : {x : Float} → Upto (262144 * px) x → Upto (16777216 * px) x
+      wide u = record { num = u .num; above = u .above; most = le-trans (u .most) (mul-le-mul-right px (lit≤ tt)) }
+
+      go : (l : List Cell) → All (Sound (ln .growing)) l → All (λ c. c .frozen ≡ false → Upto (16777216 * px) (sized sh (c .item))) l → All Done (map (settle sh t) l)
+      go [] ok h = tt
+      go (c ∷ l) ok h = (
+        settled sh t c Done
+        (λ e. record { frozen = e; target = wide (subst (λ (b : Bool). Upto (262144 * px) (cond b (c .target) (c .item .base))) e (ok .0 .size)) })
+        (λ e d. record { frozen = refl; target = h .0 e })
+        (λ e d. absurd (true≢false (sym (f (violation sh (c .item))) ∙ d))),
+        go l (ok .1) (h .1),
+      )
