@@ -83,9 +83,6 @@ module _ (ln : Line) (n have used : ℕ) (fx : Fixed ln n) (cells : List Cell) (
   short : length cells ≤ 1024
   short = le-trans (le-of-eq (kp .long)) (fx .few)
 
-  R : Float
-  R = remaining (ln .inner) (ln .gap) cells
-
   space : Room have used (count based cells) (remaining (ln .inner) (ln .gap) cells)
   space = subst (λ (k : ℕ). Room have used k (remaining (ln .inner) (ln .gap) cells)) (sizes-based cells)
       (subst (λ (k : ℕ). Room have k (sizes cells) (remaining (ln .inner) (ln .gap) cells)) (ap (λ (k : ℕ). useds (gaps (ln .gap) k) cells) (kp .long) ∙ kp .used-is)
@@ -174,9 +171,8 @@ module _ (ln : Line) (n have used : ℕ) (fx : Fixed ln n) (cells : List Cell) (
       add : {a b c d : ℕ} → a ≤ b → c ≤ d → a + c ≤ b + d
       add h k = native.Mathlib.Nat.add-le-add h k
 
-  done : ((v : Float) → freezes t v ≡ true) → ((c : Cell) → Sound (ln .growing) c → c .frozen ≡ false → Num (sized sh (c .item)) × (far true (sized sh (c .item)) ≡ 0))
-      → All (λ c. c .frozen ≡ false → Upto (16777216 * px) (sized sh (c .item))) cells → All Done cells'
-  done f z h = go cells (kp .sound) h
+  done : ((v : Float) → freezes t v ≡ true) → All (λ c. c .frozen ≡ false → Upto (16777216 * px) (sized sh (c .item))) cells → All Done cells'
+  done f h = go cells (kp .sound) h
     where
       wide : {x : Float} → Upto (262144 * px) x → Upto (16777216 * px) x
       wide u = record { num = u .num; above = u .above; most = le-trans (u .most) (mul-le-mul-right px (lit≤ tt)) }
@@ -190,3 +186,103 @@ module _ (ln : Line) (n have used : ℕ) (fx : Fixed ln n) (cells : List Cell) (
         (λ e d. absurd (true≢false (sym (f (violation sh (c .item))) ∙ d))),
         go l (ok .1) (h .1),
       )
+
+  -- ---- the side of the free space
+
+  module _ (g : Bool) (e : far (not g) (share ln cells .free) ≡ 0) where
+    open-turns : All (TurnOf g sh) (left cells)
+    open-turns = turns g (ln .growing) sh (shares g e) (left cells) open-ok each-weight
+
+    all-turns : All (λ c. c .frozen ≡ false → TurnOf g sh c) cells
+    all-turns = left-all (TurnOf g sh) cells open-turns
+
+    parts-near : 4096 * count (λ c. part g sh (c .item)) (left cells) ≤ 4097 * far g (sh .free) + 4096 * px
+    parts-near = parts g sh (shares g e) (left cells) left-few weights-near
+
+    parts-most : count (λ c. part g sh (c .item)) (left cells) ≤ far g (sh .free) + 262145 * px
+    parts-most = go (count (λ c. part g sh (c .item)) (left cells)) (far g (sh .free)) px parts-near (shares g e .most)
+      where
+        go : (s f p : ℕ) → 4096 * s ≤ 4097 * f + 4096 * p → f ≤ 1073741824 * p → s ≤ f + 262145 * p
+        go s f p h k = omega arith
+
+    total-num : Num t
+    total-num = violations g sh (shares g e) (left cells) left-few open-turns parts-near .num
+
+    keeps : far g t ≡ 0
+        → count (λ c. far g (sized sh (c .item))) (left cells) + count (λ c. far (not g) (c .item .base)) (left cells) ≤ count (λ c. far (not g) (sized sh (c .item))) (left cells) + count (λ c. far g (c .item .base)) (left cells) + count (λ c. part g sh (c .item)) (left cells) + 917504 * px
+    keeps z = conserved g sh (shares g e) (left cells) left-few open-turns parts-near z
+
+    each-part : All (λ c. part g sh (c .item) ≤ far g (sh .free)) (left cells)
+    each-part = all-map (λ c (r : (Sound (ln .growing) c × (c .frozen ≡ false)) × (far false (weight (sh .growing) (c .item)) ≤ far false (sh .weights))). part-most g sh (shares g e) (c .item) (r .0 .0 .item) (r .1)) (left cells)
+        (all-both (λ c. Sound (ln .growing) c × (c .frozen ≡ false)) (λ c. far false (weight (sh .growing) (c .item)) ≤ far false (sh .weights)) (left cells) open-ok each-weight)
+
+    -- little is shared out: no target is large
+    few-shared : far g (sh .free) ≤ 4194304 * px → All (λ c. c .frozen ≡ false → Upto (16777216 * px) (sized sh (c .item))) cells
+    few-shared h = left-all (λ c. Upto (16777216 * px) (sized sh (c .item))) cells
+        (all-map (λ c (r : (Sound (ln .growing) c × (c .frozen ≡ false)) × (TurnOf g sh c × (part g sh (c .item) ≤ far g (sh .free)))). one c (r .0 .0 .item) (r .1 .0) (r .1 .1)) (left cells)
+        (all-both (λ c. Sound (ln .growing) c × (c .frozen ≡ false)) (λ c. TurnOf g sh c × (part g sh (c .item) ≤ far g (sh .free))) (left cells) open-ok
+        (all-both (TurnOf g sh) (λ c. part g sh (c .item) ≤ far g (sh .free)) (left cells) open-turns each-part)))
+      where
+        most : (z x x' b d f p : ℕ) → z ≤ x + 262144 * p → x + x' ≤ b + d + 128 * p → b ≤ 262144 * p → d ≤ f → f ≤ 4194304 * p → z ≤ 16777216 * p
+        most z x x' b d f p h i j k l = omega arith
+
+        one : (c : Cell) → Fine (c .item) → TurnOf g sh c → part g sh (c .item) ≤ far g (sh .free) → Upto (16777216 * px) (sized sh (c .item))
+        one c f r d = record {
+          num = r .clamped;
+          above = r .clamped-above;
+          most = most (far false (sized sh (c .item))) (far false (flexed sh (c .item))) (far true (flexed sh (c .item))) (far false (c .item .base)) (part g sh (c .item)) (far g (sh .free)) px
+              (le-trans (le-of-eq (r .clamped-is)) (bounded-under (f .sizes) (far false (flexed sh (c .item))))) (r .moved .whole) (f .sizes .base .most) d h;
+        }
+
+    -- no target is more than the hypothetical size by more than k
+    near-ground : (k : ℕ) → k ≤ 8388608 → All (λ c. final sh c ≤ ground c + k * px) cells → All (λ c. c .frozen ≡ false → Upto (16777216 * px) (sized sh (c .item))) cells
+    near-ground k l h =
+        all-map {Q = λ c. c .frozen ≡ false → Upto (16777216 * px) (sized sh (c .item))} (λ c (r : (Sound (ln .growing) c × (c .frozen ≡ false → TurnOf g sh c)) × (final sh c ≤ ground c + k * px)) (z : c .frozen ≡ false).
+            one c (r .0 .0 .item) (r .0 .1 z) (subst (λ (b : Bool). cond b (far false (c .target)) (far false (sized sh (c .item))) ≤ cond b (far false (c .target)) (bounded (c .item) (far false (c .item .base))) + k * px) z (r .1))) cells
+        (all-both (λ c. Sound (ln .growing) c × (c .frozen ≡ false → TurnOf g sh c)) (λ c. final sh c ≤ ground c + k * px) cells
+        (all-both (Sound (ln .growing)) (λ c. c .frozen ≡ false → TurnOf g sh c) cells (kp .sound) all-turns) h)
+      where
+        most : (z b c k p : ℕ) → z ≤ c + k * p → c ≤ b + 262144 * p → b ≤ 262144 * p → k * p ≤ 8388608 * p → z ≤ 16777216 * p
+        most z b c k p h i j l = omega arith
+
+        one : (c : Cell) → Fine (c .item) → TurnOf g sh c → far false (sized sh (c .item)) ≤ bounded (c .item) (far false (c .item .base)) + k * px → Upto (16777216 * px) (sized sh (c .item))
+        one c f r h = record {
+          num = r .clamped;
+          above = r .clamped-above;
+          most = most (far false (sized sh (c .item))) (far false (c .item .base)) (bounded (c .item) (far false (c .item .base))) k px h (bounded-under (f .sizes) (far false (c .item .base))) (f .sizes .base .most) (mul-le-mul-right px l);
+        }
+
+    -- a round of a line that is tame
+    tame-round : Tame ln cells → Kept ln n have used cells' ⊎ All Done cells'
+    tame-round m = go (sign total-num)
+      where
+        go : Sign t → Kept ln n have used cells' ⊎ All Done cells'
+        go (up a f) = inl (kept (sounds-up (ln .growing) sh t cells (kp .sound) g all-turns f) (inl (tamer m)))
+        go (down a b f) = inl (kept (sounds-down (ln .growing) sh t cells (kp .sound) g all-turns f) (inl (tamer m)))
+        go (level a b f) = inr (done f (few-shared (le-trans (by-side g g (sh .free) (far false (sh .free) + far true (sh .free)) (le-refl (far false (sh .free) + far true (sh .free)))) (le-trans (limit .under-part (m .below)) (m .little)))))
+
+  -- ---- where the line is level
+
+  rf : ℕ
+  rf = far false (remaining (ln .inner) (ln .gap) cells)
+
+  rt : ℕ
+  rt = far true (remaining (ln .inner) (ln .gap) cells)
+
+  -- the free space is shared out of what remains, or the line is tame
+  tame-by : (far false (total (λ c. factor (ln .growing) (c .item)) (left cells)) < px) → ((g : Bool) → far g (sh .free) ≡ product (far g (ln .initial)) (far false (total (λ c. factor (ln .growing) (c .item)) (left cells)))) → far false (sh .free) + far true (sh .free) ≤ 4194304 * px → Tame ln cells
+  tame-by b h l = record { below = b; little = le-trans (le-of-eq (sym (ap₂ (λ (x y : ℕ). x + y) (h false) (h true)))) l }
+
+  -- the initial part is little on the side that the line does not flex to
+  little-part : (far false (total (λ c. factor (ln .growing) (c .item)) (left cells)) < px) → (g : Bool) → far g (ln .initial) ≤ far (not g) (ln .initial) + 2228224 * px → product (far g (ln .initial)) (far false (total (λ c. factor (ln .growing) (c .item)) (left cells))) ≤ 2228224 * px
+  little-part b g h = go (one-side (fx .initial) g)
+    where
+      F : ℕ
+      F = far false (total (λ c. factor (ln .growing) (c .item)) (left cells))
+
+      less : (a b : ℕ) → a < b → a ≤ b
+      less a b h = omega arith
+
+      go : (far g (ln .initial) ≡ 0) ⊎ (far (not g) (ln .initial) ≡ 0) → product (far g (ln .initial)) (far false (total (λ c. factor (ln .growing) (c .item)) (left cells))) ≤ 2228224 * px
+      go (inl z) = le-trans (le-of-eq (ap (λ (k : ℕ). product k (far false (total (λ c. factor (ln .growing) (c .item)) (left cells)))) z ∙ product-zero (far false (total (λ c. factor (ln .growing) (c .item)) (left cells))))) zero-le
+      go (inr z) = le-trans (product-within (far g (ln .initial)) (far false (total (λ c. factor (ln .growing) (c .item)) (left cells))) (held-num (fx .initial) g) (less (far false (total (λ c. factor (ln .growing) (c .item)) (left cells))) px b)) (omega arith)
