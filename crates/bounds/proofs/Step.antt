@@ -263,11 +263,11 @@ module _ (ln : Line) (n have used : ℕ) (fx : Fixed ln n) (cells : List Cell) (
 
   -- ---- where the line is level
 
-  rf : ℕ
-  rf = far false (remaining (ln .inner) (ln .gap) cells)
+  abbrev r : Float
+  r = remaining (ln .inner) (ln .gap) cells
 
-  rt : ℕ
-  rt = far true (remaining (ln .inner) (ln .gap) cells)
+  abbrev Outcome : Type 0
+  Outcome = Kept ln n have used cells' ⊎ All Done cells'
 
   -- the free space is shared out of what remains, or the line is tame
   tame-by : (far false (total (λ c. factor (ln .growing) (c .item)) (left cells)) < px) → ((g : Bool) → far g (sh .free) ≡ product (far g (ln .initial)) (far false (total (λ c. factor (ln .growing) (c .item)) (left cells)))) → far false (sh .free) + far true (sh .free) ≤ 4194304 * px → Tame ln cells
@@ -277,12 +277,196 @@ module _ (ln : Line) (n have used : ℕ) (fx : Fixed ln n) (cells : List Cell) (
   little-part : (far false (total (λ c. factor (ln .growing) (c .item)) (left cells)) < px) → (g : Bool) → far g (ln .initial) ≤ far (not g) (ln .initial) + 2228224 * px → product (far g (ln .initial)) (far false (total (λ c. factor (ln .growing) (c .item)) (left cells))) ≤ 2228224 * px
   little-part b g h = go (one-side (fx .initial) g)
     where
-      F : ℕ
-      F = far false (total (λ c. factor (ln .growing) (c .item)) (left cells))
-
       less : (a b : ℕ) → a < b → a ≤ b
       less a b h = omega arith
 
       go : (far g (ln .initial) ≡ 0) ⊎ (far (not g) (ln .initial) ≡ 0) → product (far g (ln .initial)) (far false (total (λ c. factor (ln .growing) (c .item)) (left cells))) ≤ 2228224 * px
       go (inl z) = le-trans (le-of-eq (ap (λ (k : ℕ). product k (far false (total (λ c. factor (ln .growing) (c .item)) (left cells)))) z ∙ product-zero (far false (total (λ c. factor (ln .growing) (c .item)) (left cells))))) zero-le
       go (inr z) = le-trans (product-within (far g (ln .initial)) (far false (total (λ c. factor (ln .growing) (c .item)) (left cells))) (held-num (fx .initial) g) (less (far false (total (λ c. factor (ln .growing) (c .item)) (left cells))) px b)) (omega arith)
+
+  abbrev FromInitial : Type 0
+  FromInitial = (far false (total (λ c. factor (ln .growing) (c .item)) (left cells)) < px) × ((g : Bool) → far g (sh .free) ≡ product (far g (ln .initial)) (far false (total (λ c. factor (ln .growing) (c .item)) (left cells))))
+
+  -- the free space is of the remaining one's side and no larger, or it comes of the initial one and the remaining is on the other side
+  split : (g : Bool) → far (not g) (share ln cells .free) ≡ 0 → ((far g (sh .free) ≤ far g r) × (far (not g) r ≡ 0)) ⊎ (FromInitial × (far g (sh .free) ≤ far (not g) r) × (far g r ≡ 0))
+  split g e = go (limit .which) (one-side (space .num) g)
+    where
+      whole : (g : Bool) (x : Float) → far g x + far (not g) x ≡ far false x + far true x
+      whole false x = refl
+      whole true x = swap (far true x) (far false x)
+        where
+          swap : (a b : ℕ) → a + b ≡ b + a
+          swap a b = omega arith
+
+      less : far g (sh .free) + far (not g) (sh .free) ≤ far g r + far (not g) r
+      less = le-trans (le-of-eq (whole g (sh .free))) (le-trans (limit .under) (le-of-eq (sym (whole g r))))
+
+      first : (a b c d : ℕ) → a + b ≤ c + d → d ≡ 0 → a ≤ c
+      first a b c d h e = omega arith
+
+      other : (a b c d : ℕ) → a + b ≤ c + d → c ≡ 0 → a ≤ d
+      other a b c d h e = omega arith
+
+      go : (sh .free ≡ r) ⊎ FromInitial → (far g r ≡ 0) ⊎ (far (not g) r ≡ 0) → ((far g (sh .free) ≤ far g r) × (far (not g) r ≡ 0)) ⊎ (FromInitial × (far g (sh .free) ≤ far (not g) r) × (far g r ≡ 0))
+      go (inl z) o = inl (le-of-eq (ap (λ (x : Float). far g x) z), sym (ap (λ (x : Float). far (not g) x) z) ∙ e)
+      go (inr i) (inl z) = inr (i, other (far g (sh .free)) (far (not g) (sh .free)) (far g r) (far (not g) r) less z, z)
+      go (inr i) (inr z) = inl (first (far g (sh .free)) (far (not g) (sh .free)) (far g r) (far (not g) r) less z, z)
+
+  -- growing, and there is space to share out
+  out-grow : ln .growing ≡ true → (e : far true (share ln cells .free) ≡ 0) → Level true have used (count ground cells) → Outcome
+  out-grow γ e lv = go (split false e)
+    where
+      BT : count based cells ≤ count ground cells
+      BT = based-grows cells (subst (λ (b : Bool). All (Sound b) cells) γ (kp .sound))
+
+      lifted : Level true have used (count ground cells') → Tame ln cells' ⊎ Level (ln .growing) have used (count ground cells')
+      lifted l = inr (subst (λ (b : Bool). Level b have used (count ground cells')) (sym γ) l)
+
+      slight : (f f' ρ ρ' A B b t p : ℕ) → ρ' + A ≤ ρ + (B + b) + 131072 * p → b ≤ t → B + t ≤ A + 2097152 * p → ρ ≡ 0 → f ≤ ρ' → f' ≡ 0 → f + f' ≤ 4194304 * p
+      slight f f' ρ ρ' A B b t p h i j k l m = omega arith
+
+      same : (A B t t' p : ℕ) → t' ≤ t → t ≤ t' → (A ≤ B + t + 2097152 * p) × (B + t ≤ A + 2097152 * p) → (A ≤ B + t' + 2097152 * p) × (B + t' ≤ A + 2097152 * p)
+      same A B t t' p h k l = omega arith
+
+      grown : (A B b t t' c s f ρ ρ' p : ℕ) → t ≤ t' → t' ≤ c → c ≤ b + (s + 917504 * p) → s ≤ f + 262145 * p → f ≤ ρ → ρ' ≡ 0 → ρ + (B + b) ≤ ρ' + A + 131072 * p
+          → (A ≤ B + t + 2097152 * p) × (B + t ≤ A + 2097152 * p) → (A ≤ B + t' + 2097152 * p) × (B + t' ≤ A + 2097152 * p)
+      grown A B b t t' c s f ρ ρ' p h i j k l m n o = omega arith
+
+      ends : (A B b t c s f ρ ρ' p : ℕ) → c ≤ b + (s + 917504 * p) → s ≤ f + 262145 * p → f ≤ ρ → ρ' ≡ 0 → ρ + (B + b) ≤ ρ' + A + 131072 * p → A ≤ B + t + 2097152 * p → c ≤ t + 3407873 * p
+      ends A B b t c s f ρ ρ' p h i j k l m = omega arith
+
+      one : (x y c t k : ℕ) → x + t ≤ y + c → c ≤ t + k → x ≤ y + k
+      one x y c t k h i = omega arith
+
+      good : far false (sh .free) ≤ far false r → far true r ≡ 0 → Sign t → Outcome
+      good f z (up a u) = inl (kept (sounds-up (ln .growing) sh t cells (kp .sound) false (all-turns false e) u)
+          (lifted (same have used (count ground cells) (count ground cells') px (grounds-up (ln .growing) sh t cells (kp .sound) false (all-turns false e) u) (out-ground (ln .growing) sh t cells (kp .sound) (all-turns false e)) lv)))
+      good f z (down a b u) = inl (kept (sounds-down (ln .growing) sh t cells (kp .sound) false (all-turns false e) u)
+          (lifted (grown have used (count based cells) (count ground cells) (count ground cells') (count (final sh) cells) (count (λ c. part false sh (c .item)) (left cells)) (far false (sh .free)) (far false r) (far true r) px
+          (out-ground (ln .growing) sh t cells (kp .sound) (all-turns false e)) (out-final (ln .growing) sh t cells (kp .sound) (all-turns false e))
+          (out-conserved sh cells (ln .growing) open-ok (917504 * px) (open-turns false e) (keeps false e a)) (parts-most false e) f z (space .largest) lv)))
+      good f z (level a b u) = inr (done u (near-ground false e 3407873 (lit≤ tt)
+          (all-map (λ c k. one (final sh c) (ground c) (count (final sh) cells) (count ground cells) (3407873 * px) k
+              (ends have used (count based cells) (count ground cells) (count (final sh) cells) (count (λ c. part false sh (c .item)) (left cells)) (far false (sh .free)) (far false r) (far true r) px
+              (out-conserved sh cells (ln .growing) open-ok (917504 * px) (open-turns false e) (keeps false e a)) (parts-most false e) f z (space .largest) (lv .0))) cells
+          (count-one ground (final sh) cells (out-each (ln .growing) sh t cells (kp .sound) (all-turns false e))))))
+
+      go : ((far false (sh .free) ≤ far false r) × (far true r ≡ 0)) ⊎ (FromInitial × (far false (sh .free) ≤ far true r) × (far false r ≡ 0)) → Outcome
+      go (inl h) = good (h .0) (h .1) (sign (total-num false e))
+      go (inr h) = tame-round false e (tame-by (h .0 .0) (h .0 .1) (slight (far false (sh .free)) (far true (sh .free)) (far false r) (far true r) have used (count based cells) (count ground cells) px (space .least) BT (lv .1) (h .2) (h .1) e))
+
+  -- shrinking, though there is space to share out
+  out-shrink : ln .growing ≡ false → (e : far true (share ln cells .free) ≡ 0) → Level false have used (count ground cells) → Outcome
+  out-shrink γ e lv = go (sign (total-num false e))
+    where
+      more : (A B t t' p : ℕ) → t ≤ t' → A ≤ B + t + 2097152 * p → A ≤ B + t' + 2097152 * p
+      more A B t t' p h k = omega arith
+
+      lifted : Tame ln cells' ⊎ Level (ln .growing) have used (count ground cells')
+      lifted = inr (subst (λ (b : Bool). Level b have used (count ground cells')) (sym γ) (more have used (count ground cells) (count ground cells') px (out-ground (ln .growing) sh t cells (kp .sound) (all-turns false e)) lv))
+
+      slight : (f ρ ρ' A B b t p : ℕ) → ρ + (B + b) ≤ ρ' + A + 131072 * p → t ≤ b → A ≤ B + t + 2097152 * p → ρ' ≡ 0 → f ≤ ρ → f ≤ 4194304 * p
+      slight f ρ ρ' A B b t p h i j k l = omega arith
+
+      little : (sh .free ≡ r) ⊎ FromInitial → far false (sh .free) ≤ 4194304 * px
+      little (inl z) = slight (far false (sh .free)) (far false r) (far true r) have used (count based cells) (count ground cells) px (space .largest)
+          (based-shrinks cells (subst (λ (b : Bool). All (Sound b) cells) γ (kp .sound))) lv (sym (ap (λ (x : Float). far true x) z) ∙ e) (le-of-eq (ap (λ (x : Float). far false x) z))
+      little (inr i) = le-trans (le-of-eq (i .1 false)) (le-trans (little-part (i .0) false (subst (λ (b : Bool). Lean b (ln .initial)) γ (fx .lean))) (mul-le-mul-right px (lit≤ tt)))
+
+      go : Sign t → Outcome
+      go (up a u) = inl (kept (sounds-up (ln .growing) sh t cells (kp .sound) false (all-turns false e) u) lifted)
+      go (down a b u) = inl (kept (sounds-down (ln .growing) sh t cells (kp .sound) false (all-turns false e) u) lifted)
+      go (level a b u) = inr (done u (few-shared false e (little (limit .which))))
+
+  -- where space is taken back, no target is above the hypothetical size
+  back-done : (e : far false (share ln cells .free) ≡ 0) → ((v : Float) → freezes t v ≡ true) → All Done cells'
+  back-done e u = done u (near-ground true e 0 zero-le (all-map (λ c h. le-trans h (more (ground c) px)) cells (back-each (ln .growing) sh t cells (kp .sound) (all-turns true e))))
+    where
+      more : (a p : ℕ) → a ≤ a + 0 * p
+      more a p = omega arith
+
+  -- growing, though space is taken back
+  back-grow : ln .growing ≡ true → (e : far false (share ln cells .free) ≡ 0) → Level true have used (count ground cells) → Outcome
+  back-grow γ e lv = go (sign (total-num true e))
+    where
+      lifted : Level true have used (count ground cells') → Tame ln cells' ⊎ Level (ln .growing) have used (count ground cells')
+      lifted l = inr (subst (λ (b : Bool). Level b have used (count ground cells')) (sym γ) l)
+
+      same : (A B t t' p : ℕ) → t' ≤ t → t ≤ t' → (A ≤ B + t + 2097152 * p) × (B + t ≤ A + 2097152 * p) → (A ≤ B + t' + 2097152 * p) × (B + t' ≤ A + 2097152 * p)
+      same A B t t' p h k l = omega arith
+
+      lower : (A B b b' t t' s m f ρ ρ' p : ℕ) → t' ≤ t → b ≤ b' + (s + m) → b' ≤ t' → s ≤ f + 262145 * p → m ≤ 131072 * p → f ≤ ρ' → ρ ≡ 0 → ρ' + A ≤ ρ + (B + b) + 131072 * p
+          → (A ≤ B + t + 2097152 * p) × (B + t ≤ A + 2097152 * p) → (A ≤ B + t' + 2097152 * p) × (B + t' ≤ A + 2097152 * p)
+      lower A B b b' t t' s m f ρ ρ' p h i j k l o q v w = omega arith
+
+      tight : (f f' p : ℕ) → f ≡ 0 → f' ≤ 2228224 * p → f + f' ≤ 4194304 * p
+      tight f f' p h k = omega arith
+
+      thin : count (λ c. 128 * px) (left cells) ≤ 131072 * px
+      thin = le-trans (le-of-eq (count-long (128 * px) (left cells))) (le-trans (mul-le-mul-right (128 * px) left-few) (le-of-eq (re px)))
+        where
+          re : (p : ℕ) → 1024 * (128 * p) ≡ 131072 * p
+          re p = omega arith
+
+      raised : Up t → ((far true (sh .free) ≤ far true r) × (far false r ≡ 0)) ⊎ (FromInitial × (far true (sh .free) ≤ far false r) × (far true r ≡ 0)) → Outcome
+      raised u (inl h) =
+          let ok = sounds-up (ln .growing) sh t cells (kp .sound) true (all-turns true e) u in
+          inl (kept ok (lifted (lower have used (count based cells) (count based cells') (count ground cells) (count ground cells') (count (λ c. part true sh (c .item)) (left cells)) (count (λ c. 128 * px) (left cells)) (far true (sh .free)) (far false r) (far true r) px
+          (back-ground (ln .growing) sh t cells (kp .sound) (all-turns true e)) (back-based (ln .growing) sh t cells (kp .sound) (all-turns true e) u) (based-grows cells' (subst (λ (b : Bool). All (Sound b) cells') γ ok))
+          (parts-most true e) thin (h .0) (h .1) (space .least) lv)))
+      raised u (inr h) = tame-round true e (tame-by (h .0 .0) (h .0 .1) (tight (far false (sh .free)) (far true (sh .free)) px e (le-trans (le-of-eq (h .0 .1 true)) (little-part (h .0 .0) true (subst (λ (b : Bool). Lean b (ln .initial)) γ (fx .lean))))))
+
+      go : Sign t → Outcome
+      go (up a u) = raised u (split true e)
+      go (down a b u) = inl (kept (sounds-down (ln .growing) sh t cells (kp .sound) true (all-turns true e) u)
+          (lifted (same have used (count ground cells) (count ground cells') px (back-ground (ln .growing) sh t cells (kp .sound) (all-turns true e)) (grounds-down (ln .growing) sh t cells (kp .sound) true (all-turns true e) u) lv)))
+      go (level a b u) = inr (back-done e u)
+
+  -- shrinking, and space is taken back
+  back-shrink : ln .growing ≡ false → (e : far false (share ln cells .free) ≡ 0) → Level false have used (count ground cells) → Outcome
+  back-shrink γ e lv = go (sign (total-num true e))
+    where
+      lifted : Level false have used (count ground cells') → Tame ln cells' ⊎ Level (ln .growing) have used (count ground cells')
+      lifted l = inr (subst (λ (b : Bool). Level b have used (count ground cells')) (sym γ) l)
+
+      more : (A B t t' p : ℕ) → t ≤ t' → A ≤ B + t + 2097152 * p → A ≤ B + t' + 2097152 * p
+      more A B t t' p h k = omega arith
+
+      slight : (f f' ρ ρ' A B b t p : ℕ) → ρ + (B + b) ≤ ρ' + A + 131072 * p → t ≤ b → A ≤ B + t + 2097152 * p → ρ' ≡ 0 → f' ≤ ρ → f ≡ 0 → f + f' ≤ 4194304 * p
+      slight f f' ρ ρ' A B b t p h i j k l m = omega arith
+
+      shrunk : (A B b t' c s f ρ ρ' p : ℕ) → c ≤ t' → b ≤ c + (s + 917504 * p) → s ≤ f + 262145 * p → f ≤ ρ' → ρ ≡ 0 → ρ' + A ≤ ρ + (B + b) + 131072 * p → A ≤ B + t' + 2097152 * p
+      shrunk A B b t' c s f ρ ρ' p h i j k l m = omega arith
+
+      none : 0 < far false t → (far true t ≡ 0) ⊎ (far false t ≡ 0) → far true t ≡ 0
+      none h (inl z) = z
+      none h (inr z) = absurd (omega arith)
+
+      raised : 0 < far false t → Up t → ((far true (sh .free) ≤ far true r) × (far false r ≡ 0)) ⊎ (FromInitial × (far true (sh .free) ≤ far false r) × (far true r ≡ 0)) → Outcome
+      raised a u (inl h) = inl (kept (sounds-up (ln .growing) sh t cells (kp .sound) true (all-turns true e) u)
+          (lifted (shrunk have used (count based cells) (count ground cells') (count (final sh) cells) (count (λ c. part true sh (c .item)) (left cells)) (far true (sh .free)) (far false r) (far true r) px
+          (back-final (ln .growing) sh t cells (kp .sound) (all-turns true e)) (back-conserved sh cells (ln .growing) open-ok (917504 * px) (open-turns true e) (keeps true e (none a (one-side (total-num true e) true))))
+          (parts-most true e) (h .0) (h .1) (space .least))))
+      raised a u (inr h) = tame-round true e (tame-by (h .0 .0) (h .0 .1) (slight (far false (sh .free)) (far true (sh .free)) (far false r) (far true r) have used (count based cells) (count ground cells) px
+          (space .largest) (based-shrinks cells (subst (λ (b : Bool). All (Sound b) cells) γ (kp .sound))) lv (h .2) (h .1) e))
+
+      go : Sign t → Outcome
+      go (up a u) = raised a u (split true e)
+      go (down a b u) = inl (kept (sounds-down (ln .growing) sh t cells (kp .sound) true (all-turns true e) u)
+          (lifted (more have used (count ground cells) (count ground cells') px (grounds-down (ln .growing) sh t cells (kp .sound) true (all-turns true e) u) lv)))
+      go (level a b u) = inr (back-done e u)
+
+  pub step : Kept ln n have used (round ln cells) ⊎ All Done (round ln cells)
+  unfolding round
+  step = go (one-side (limit .num) true) (kp .state) (ln .growing) refl
+    where
+      level-at : (b : Bool) → ln .growing ≡ b → Level (ln .growing) have used (count ground cells) → Level b have used (count ground cells)
+      level-at b γ l = subst (λ (b : Bool). Level b have used (count ground cells)) γ l
+
+      go : (far true (share ln cells .free) ≡ 0) ⊎ (far false (share ln cells .free) ≡ 0) → Tame ln cells ⊎ Level (ln .growing) have used (count ground cells) → (b : Bool) → ln .growing ≡ b → Kept ln n have used cells' ⊎ All Done cells'
+      go (inl e) (inl m) b γ = tame-round false e m
+      go (inr e) (inl m) b γ = tame-round true e m
+      go (inl e) (inr l) true γ = out-grow γ e (level-at true γ l)
+      go (inl e) (inr l) false γ = out-shrink γ e (level-at false γ l)
+      go (inr e) (inr l) true γ = back-grow γ e (level-at true γ l)
+      go (inr e) (inr l) false γ = back-shrink γ e (level-at false γ l)
