@@ -13,3 +13,4 @@ pub mod Settled
 pub mod Levels
 pub mod Fewer
 pub mod Step
+pub mod Domain
