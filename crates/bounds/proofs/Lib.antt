@@ -14,3 +14,4 @@ pub mod Levels
 pub mod Fewer
 pub mod Step
 pub mod Domain
+pub mod Start

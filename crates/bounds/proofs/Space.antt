@@ -52,11 +52,11 @@ both-sides m n x h e = go (far false x) (far true x) px n (h false) (h true) e
 upto-sides : {n : ℕ} {x : Float} → Upto n x → (h : Bool) → far h x ≤ n
 upto-sides u h = by-side h (λ k. far k _ ≤ _) (u .most) (le-trans (le-of-eq (u .above)) zero-le)
 
-record Lies (n : ℕ) (x y z : Float) : Type 0 where
-  num : Num z
-  most : (h : Bool) → far h z ≤ n
-  near-f : far false z + far true x + far true y ≤ far true z + far false x + far false y + px
-  near-t : far true z + far false x + far false y ≤ far false z + far true x + far true y + px
+pub record Lies (n : ℕ) (x y z : Float) : Type 0 where
+  pub num : Num z
+  pub most : (h : Bool) → far h z ≤ n
+  pub near-f : far false z + far true x + far true y ≤ far true z + far false x + far false y + px
+  pub near-t : far true z + far false x + far false y ≤ far false z + far true x + far true y + px
 
 -- the sum of two numbers of at most m and n pixels
 lies : (m n : ℕ) (x y : Float) → Num x → Num y → ((h : Bool) → far h x ≤ m * px) → ((h : Bool) → far h y ≤ n * px) → m + n ≤ 16777216 → m + m ≤ 33554432 → n + n ≤ 33554432 → Lies ((m + n + 1) * px) x y (x ⊕ y)
@@ -76,7 +76,7 @@ lies m n x y p q h k l lm ln =
     most : (z a b p : ℕ) → z ≤ a + b + p → a ≤ m * p → b ≤ n * p → z ≤ (m + n + 1) * p
     most z a b p h k l = omega arith
 
-margin-lies : {it : Item} → Fine it → Lies (262145 * px) (it .start) (it .end) (margin it)
+pub margin-lies : {it : Item} → Fine it → Lies (262145 * px) (it .start) (it .end) (margin it)
 margin-lies {it} f = lies 131072 131072 (it .start) (it .end) (f .start) (f .end) (f .start-small) (f .end-small) (lit≤ tt) (lit≤ tt) (lit≤ tt)
 
 taken-lies : {g : Bool} {c : Cell} → Sound g c → Lies (524290 * px) (held c) (margin (c .item)) (taken c)

@@ -48,19 +48,28 @@ unfolding product px
 product-zero b = grid-held binary32 (0 * b) (2 ^ 149 * 2 ^ 149) 0 0 (mul-pos (pow-pos 149) (pow-pos 149)) zero-le
     (ap (λ (n : ℕ). n * 2 ^ 149) (zero-mul b) ∙ zero-mul (2 ^ 149) ∙ sym (ap (λ (n : ℕ). n * (2 ^ 149 * 2 ^ 149)) (zero-mul (2 ^ 0)) ∙ zero-mul (2 ^ 149 * 2 ^ 149)))
 
-raw : (a b : ℕ) → 16777216 * (product a b * (px * px)) ≤ 16777216 * (a * b * px) + (a * b * px + 8388608 * (px * px))
+raw : (a b : ℕ) → (16777216 * (product a b * (px * px)) ≤ 16777216 * (a * b * px) + (a * b * px + 8388608 * (px * px))) × (16777216 * (a * b * px) ≤ 16777216 * (product a b * (px * px)) + (a * b * px + 8388608 * (px * px)))
 unfolding product px
-raw a b = grid-near binary32 (a * b) (2 ^ 149 * 2 ^ 149) (mul-pos (pow-pos 149) (pow-pos 149)) .0
+raw a b = grid-near binary32 (a * b) (2 ^ 149 * 2 ^ 149) (mul-pos (pow-pos 149) (pow-pos 149))
 
--- a / px * b, moved up by at most 2 ^ -24 of it and half a unit
+-- a / px * b, moved by at most 2 ^ -24 of it and half a unit
 pub product-near : (a b : ℕ) → 16777216 * (product a b * px) ≤ 16777216 * (a * b) + (a * b + 8388608 * px)
-product-near a b = le-of-mul-le-mul-right {k = px} (le-trans (le-of-eq (re (product a b) px)) (le-trans (raw a b) (le-of-eq (er (a * b) px)))) px-pos
+product-near a b = le-of-mul-le-mul-right {k = px} (le-trans (le-of-eq (re (product a b) px)) (le-trans (raw a b .0) (le-of-eq (er (a * b) px)))) px-pos
   where
     re : (g p : ℕ) → 16777216 * (g * p) * p ≡ 16777216 * (g * (p * p))
     re g p = omega arith
 
     er : (n p : ℕ) → 16777216 * (n * p) + (n * p + 8388608 * (p * p)) ≡ (16777216 * n + (n + 8388608 * p)) * p
     er n p = omega arith
+
+pub product-close : (a b : ℕ) → 16777216 * (a * b) ≤ 16777216 * (product a b * px) + (a * b + 8388608 * px)
+product-close a b = le-of-mul-le-mul-right {k = px} (le-trans (le-of-eq (re (a * b) px)) (le-trans (raw a b .1) (le-of-eq (er (product a b) (a * b) px)))) px-pos
+  where
+    re : (n p : ℕ) → 16777216 * n * p ≡ 16777216 * (n * p)
+    re n p = omega arith
+
+    er : (g n p : ℕ) → 16777216 * (g * (p * p)) + (n * p + 8388608 * (p * p)) ≡ (16777216 * (g * p) + (n + 8388608 * p)) * p
+    er g n p = omega arith
 
 px-small : px ≤ 2 ^ 250
 unfolding px

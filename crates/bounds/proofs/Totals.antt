@@ -55,6 +55,11 @@ unfolding count
 count-same f g [] h = refl
 count-same f g (a ∷ l) h = ap₂ (λ (m n : ℕ). m + n) (h a) (count-same f g l h)
 
+pub count-alike : {A : Type 0} (f g : A → ℕ) (l : List A) → All (λ a. f a ≡ g a) l → count f l ≡ count g l
+unfolding count
+count-alike f g [] h = refl
+count-alike f g (a ∷ l) h = ap₂ (λ (m n : ℕ). m + n) (h .0) (count-alike f g l (h .1))
+
 -- where each f a is at most g a, one of them differs by no more than the sums do
 pub count-one : {A : Type 0} (f g : A → ℕ) (l : List A) → All (λ a. f a ≤ g a) l → All (λ a. g a + count f l ≤ f a + count g l) l
 unfolding count
