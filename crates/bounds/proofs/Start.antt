@@ -116,3 +116,121 @@ outer-sides {it} i =
         → p * u + (st + et) ≡ m * u + (b + (sf + ef))
     scale p m ph mh pq mq ps ms pe me u st sf et ef b e f a c d g h i =
         omega (arith, ap (λ (k : ℕ). k * u) (sums p m ph mh pq mq ps ms pe me e f))
+
+-- ---- the sums over a line
+
+pub each-all : (P : Item → Type 0) (l : List Item) → Each P l → All P l
+each-all P [] h = tt
+each-all P (it ∷ l) h = (h .0, each-all P l (h .1))
+
+-- the exact sum, the sum of the outer sizes above 0 and of those below
+sum-sides : (l : List Item) → plus (sumUnits l) + count (λ it. minus (outerUnits it)) l ≡ minus (sumUnits l) + count (λ it. plus (outerUnits it)) l
+unfolding sumUnits count
+sum-sides [] = refl
+sum-sides (it ∷ l) = go (plus (outerUnits it +ℤ sumUnits l)) (minus (outerUnits it +ℤ sumUnits l)) (plus (outerUnits it)) (minus (outerUnits it)) (plus (sumUnits l)) (minus (sumUnits l)) (count (λ it. plus (outerUnits it)) l) (count (λ it. minus (outerUnits it)) l)
+    (add-sides (outerUnits it) (sumUnits l)) (sum-sides l)
+  where
+    go : (p m a b c d x y : ℕ) → p + b + d ≡ m + a + c → c + y ≡ d + x → p + (b + y) ≡ m + (a + x)
+    go p m a b c d x y e f = omega arith
+
+-- the magnitudes and the gaps come to at most 16,777,216 sixty-fourths
+sum-small : (gap : Float) (l : List Item) → count (λ it. minus (outerUnits it)) l + length l * plus (sixtyFourths gap) ≤ outerSum gap l
+unfolding outerSum count
+sum-small gap [] = le-of-eq (zero-first (plus (sixtyFourths gap)))
+  where
+    zero-first : (n : ℕ) → 0 + 0 * n ≡ 0
+    zero-first n = omega arith
+sum-small gap (it ∷ l) = go (natAbs (outerUnits it)) (plus (outerUnits it)) (minus (outerUnits it)) (natAbs (sixtyFourths gap)) (plus (sixtyFourths gap)) (minus (sixtyFourths gap)) (count (λ it. minus (outerUnits it)) l) (length l) (outerSum gap l)
+    (abs-sides (outerUnits it)) (abs-sides (sixtyFourths gap)) (sum-small gap l)
+  where
+    go : (a p m b q k c n o : ℕ) → a ≡ p + m → b ≡ q + k → c + n * q ≤ o → m + c + suc n * q ≤ a + b + o
+    go a p m b q k c n o e f h = omega arith
+
+-- in units: hypothetical sizes and margins
+all-sides : (l : List Item) → All IsItem l
+    → plus (sumUnits l) * unit + count (λ it. far true (it .start) + far true (it .end)) l ≡ minus (sumUnits l) * unit + (count (λ it. bounded it (far false (it .base))) l + count (λ it. far false (it .start) + far false (it .end)) l)
+unfolding sumUnits count
+all-sides [] h = refl
+all-sides (it ∷ l) h = go (plus (outerUnits it +ℤ sumUnits l)) (minus (outerUnits it +ℤ sumUnits l)) (plus (outerUnits it)) (minus (outerUnits it)) (plus (sumUnits l)) (minus (sumUnits l)) unit
+    (far true (it .start) + far true (it .end)) (far false (it .start) + far false (it .end)) (bounded it (far false (it .base)))
+    (count (λ it. far true (it .start) + far true (it .end)) l) (count (λ it. far false (it .start) + far false (it .end)) l) (count (λ it. bounded it (far false (it .base))) l)
+    (add-sides (outerUnits it) (sumUnits l)) (outer-sides (h .0)) (all-sides l (h .1))
+  where
+    go : (p m a b c d u st sf x S F X : ℕ) → p + b + d ≡ m + a + c → a * u + st ≡ b * u + (x + sf) → c * u + S ≡ d * u + (X + F) → p * u + (st + S) ≡ m * u + (x + X + (sf + F))
+    go p m a b c d u st sf x S F X e f g = omega (arith, ap (λ (k : ℕ). k * u) e)
+
+-- the margins as they are summed up, against each by itself
+margins : (l : List Item) → All IsItem l
+    → (count (λ it. far false (margin it)) l + count (λ it. far true (it .start) + far true (it .end)) l ≤ count (λ it. far true (margin it)) l + count (λ it. far false (it .start) + far false (it .end)) l + length l * px)
+    × (count (λ it. far true (margin it)) l + count (λ it. far false (it .start) + far false (it .end)) l ≤ count (λ it. far false (margin it)) l + count (λ it. far true (it .start) + far true (it .end)) l + length l * px)
+unfolding count
+margins [] h = (zero-le, zero-le)
+margins (it ∷ l) h =
+    let m = margin-lies (fine (h .0)) in
+    let r = margins l (h .1) in
+    (go (far false (margin it)) (far true (margin it)) (far false (it .start)) (far true (it .start)) (far false (it .end)) (far true (it .end)) (count (λ it. far false (margin it)) l) (count (λ it. far true (margin it)) l) (count (λ it. far false (it .start) + far false (it .end)) l) (count (λ it. far true (it .start) + far true (it .end)) l) (length l) px (m .near-f) (r .0),
+     go (far true (margin it)) (far false (margin it)) (far true (it .start)) (far false (it .start)) (far true (it .end)) (far false (it .end)) (count (λ it. far true (margin it)) l) (count (λ it. far false (margin it)) l) (count (λ it. far true (it .start) + far true (it .end)) l) (count (λ it. far false (it .start) + far false (it .end)) l) (length l) px (m .near-t) (r .1))
+  where
+    go : (m m' s s' e e' M M' S S' n p : ℕ) → m + s' + e' ≤ m' + s + e + p → M + S' ≤ M' + S + n * p → m + M + (s' + e' + S') ≤ m' + M' + (s + e + S) + suc n * p
+    go m m' s s' e e' M M' S S' n p h k = omega arith
+
+-- ---- the gaps
+
+pub record Gaps (gap : Float) (n : ℕ) : Type 0 where
+  pub upto : Upto (262145 * px) (gaps gap n)
+  pub over : far false (gaps gap n) ≤ plus (sixtyFourths gap) * (n - 1) * unit + px
+  pub under : plus (sixtyFourths gap) * (n - 1) * unit ≤ far false (gaps gap n) + px
+
+pub gaps-near : (gap : Float) (n : ℕ) → IsSize gap → n ≤ 1024 → n * plus (sixtyFourths gap) ≤ 16777216 → Gaps gap n
+unfolding gaps
+gaps-near gap zero s l h = record {
+  upto = record { num = nought-num .0; above = nought-num .1 true; most = le-trans (le-of-eq (nought-num .1 false)) zero-le };
+  over = le-trans (le-of-eq (nought-num .1 false)) zero-le;
+  under = le-trans (le-of-eq (none (plus (sixtyFourths gap)) unit)) zero-le;
+}
+  where
+    none : (a u : ℕ) → a * 0 * u ≡ 0
+    none a u = omega arith
+gaps-near gap (suc k) s l h =
+    let g = size-upto s in
+    let w = whole-num k (le-trans (few k l) (lit≤ tt)) in
+    let r = mul-num (g .num) (w .0) (w .2) (le-trans (le-of-eq (w .1)) (mul-le-mul-right px (few k l))) (le-trans (whole-of g) (far-off 262144 (lit≤ tt))) in
+    let d : far false (gap ⊗ ofInt binary32 (pos k)) ≡ product (far false gap) (k * px) = r .size false ∙ ap (λ (m : ℕ). product (far false gap) m) (w .1) in
+    let a = plus (sixtyFourths gap) in
+    let e : far false gap ≡ a * unit = size-grid s .over in
+    let most : a * k * unit ≤ 262144 * px = le-trans (mul-le-mul-right unit (fewer a k h)) (le-of-eq (re unit px unit-px)) in
+    let N = near (product (far false gap) (k * px)) (far false gap) a k unit px px-pos e (product-near (far false gap) (k * px)) most in
+    let C = close (product (far false gap) (k * px)) (far false gap) a k unit px px-pos e (product-close (far false gap) (k * px)) most in
+    record {
+      upto = record { num = r .num; above = r .size true ∙ ap (λ (m : ℕ). product m (far false (ofInt binary32 (pos k)))) (g .above) ∙ Rattle.bounds.proofs.Times.product-zero (far false (ofInt binary32 (pos k))); most = le-trans (le-of-eq d) (le-trans N (sum (a * k * unit) px most)) };
+      over = le-trans (le-of-eq d) (subst (λ (j : ℕ). product (far false gap) (k * px) ≤ a * j * unit + px) (pred k) N);
+      under = subst (λ (j : ℕ). a * j * unit ≤ far false (gap ⊗ ofInt binary32 (pos k)) + px) (pred k) (subst (λ (m : ℕ). a * k * unit ≤ m + px) (sym d) C);
+    }
+  where
+    few : (k : ℕ) → suc k ≤ 1024 → k ≤ 1024
+    few k h = omega arith
+
+    pred : (k : ℕ) → k ≡ suc k - 1
+    pred k = omega arith
+
+    fewer : (a k : ℕ) → suc k * a ≤ 16777216 → a * k ≤ 16777216
+    fewer a k h = omega arith
+
+    re : (u q : ℕ) → 64 * u ≡ q → 16777216 * u ≡ 262144 * q
+    re u q e = omega arith
+
+    sum : (x p : ℕ) → x ≤ 262144 * p → x + p ≤ 262145 * p
+    sum x p h = omega arith
+
+    -- over p, and small against it
+    near : (z f a k u p : ℕ) → 0 < p → f ≡ a * u → 16777216 * (z * p) ≤ 16777216 * (f * (k * p)) + (f * (k * p) + 8388608 * p) → a * k * u ≤ 262144 * p → z ≤ a * k * u + p
+    near z f a k u p P e h l = last z (a * k * u) p P (le-of-mul-le-mul-right {k = p} (subst (λ (f : ℕ). 16777216 * (z * p) ≤ 16777216 * (f * (k * p)) + (f * (k * p) + 8388608 * p) → 16777216 * z * p ≤ (16777217 * (a * k * u) + 8388608) * p) (sym e) (λ q. omega arith) h) P) l
+      where
+        last : (z x p : ℕ) → 0 < p → 16777216 * z ≤ 16777217 * x + 8388608 → x ≤ 262144 * p → z ≤ x + p
+        last z x p P h l = omega arith
+
+    close : (z f a k u p : ℕ) → 0 < p → f ≡ a * u → 16777216 * (f * (k * p)) ≤ 16777216 * (z * p) + (f * (k * p) + 8388608 * p) → a * k * u ≤ 262144 * p → a * k * u ≤ z + p
+    close z f a k u p P e h l = last z (a * k * u) p P (le-of-mul-le-mul-right {k = p} (subst (λ (f : ℕ). 16777216 * (f * (k * p)) ≤ 16777216 * (z * p) + (f * (k * p) + 8388608 * p) → 16777216 * (a * k * u) * p ≤ (16777216 * z + (a * k * u + 8388608)) * p) (sym e) (λ q. omega arith) h) P) l
+      where
+        last : (z x p : ℕ) → 0 < p → 16777216 * x ≤ 16777216 * z + (x + 8388608) → x ≤ 262144 * p → x ≤ z + p
+        last z x p P h l = omega arith
