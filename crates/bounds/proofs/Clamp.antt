@@ -124,6 +124,9 @@ raised-small' C m e a K p q h = omega arith
 under' : (C m e a K : ℕ) → m ≤ K → e ≤ K → max (max (min a C) m) e ≤ a + K
 under' C m e a K p q = omega arith
 
+small' : (C m e a K : ℕ) → m ≤ K → e ≤ K → a ≤ K → max (max (min a C) m) e ≤ K
+small' C m e a K p q h = omega arith
+
 lowered-small' : (C m e a K : ℕ) → m ≤ K → e ≤ K → (a ≤ C) ⊎ (C ≤ K) → max (max (min a C) m) e < a → max (max (min a C) m) e ≤ K
 lowered-small' C m e a K p q (inl l) h = omega arith
 lowered-small' C m e a K p q (inr l) h = omega arith
@@ -136,6 +139,10 @@ module _ {it : Item} (s : Sizes it) (a : ℕ) where
   pub bounded-under : bounded it a ≤ a + 262144 * px
   unfolding bounded
   bounded-under = under' (cap (it .maximum)) (far false (it .minimum)) (far false (it .edges)) a (262144 * px) (s .minimum .most) (s .edges .most)
+
+  pub bounded-small : a ≤ 262144 * px → bounded it a ≤ 262144 * px
+  unfolding bounded
+  bounded-small h = small' (cap (it .maximum)) (far false (it .minimum)) (far false (it .edges)) a (262144 * px) (s .minimum .most) (s .edges .most) h
 
   pub lowered-small : a ≤ 1152921504606846976 * px → bounded it a < a → bounded it a ≤ 262144 * px
   unfolding bounded cap
