@@ -15,3 +15,4 @@ pub mod Fewer
 pub mod Step
 pub mod Domain
 pub mod Start
+pub mod Reach
