@@ -1,18 +1,17 @@
 -- A round freezes an item: where one is unfrozen, fewer are unfrozen after it. So the rounds end, after no more of them than there are items, and their number is one. Assumes nothing.
 use mathlib.Core.Path.{_≡_, refl, sym, ap, _∙_, subst}
 use mathlib.Core.Logic.{_⊎_, inl, inr}
-use mathlib.Core.Bool.{Bool, true, false, cond, true≢false, false≢true}
+use mathlib.Core.Bool.{Bool, true, false, cond, true≢false}
 use mathlib.Core.List.{List, [], _∷_, map}
 use Prim.Native.Nat.{ℕ, zero, suc, _+_, _≤_, _<_, zero-le}
-use native.Mathlib.Nat.{le-refl, le-trans, le-antisymm, lt-irrefl, zero-lt-suc, lt-of-lt-of-le, lt-of-not-le, le-of-suc-le-suc}
+use native.Mathlib.Nat.{le-trans, le-antisymm, lt-irrefl, lt-of-not-le, le-of-suc-le-suc}
 use borrow.Author.Count.{below-more, below-none as below-no}
 use native.Mathlib.Omega.{arith}
-use lib.Dec.{T, ltb, ltb→lt, nltb→le}
 use lib.ListN.{length}
 use lib.Ieee.{Float, lt}
 use Rattle.flexing.specs.declared.Line.{Line}
 use Rattle.flexing.specs.declared.Share.{Share}
-use Rattle.flexing.specs.Flex.{Cell, sumFrom, total, left, unfrozen, share, violation, freezes, settle, round, after, Runs, nought}
+use Rattle.flexing.specs.Flex.{Cell, total, left, unfrozen, share, violation, freezes, settle, round, after, Runs, nought}
 use Rattle.flexing.proofs.Signs.{Not, All, above-none, none-above, below-none, none-below, not-total, not-nought}
 
 -- ---- one cell

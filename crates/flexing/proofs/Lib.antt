@@ -2,3 +2,12 @@ pub mod Each
 pub mod Signs
 pub mod Falls
 pub mod Round
+pub mod Units
+pub mod Loop
+pub mod Finish
+pub mod Determined
+pub mod Columns
+pub mod Marked
+pub mod Accept
+pub mod Examples
+pub mod Sign

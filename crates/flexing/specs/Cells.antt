@@ -3,8 +3,8 @@
 use mathlib.Core.Path.{_≡_}
 use mathlib.Core.Logic.{_⊎_}
 use mathlib.Core.Bool.{Bool, false, cond}
-use mathlib.Core.List.{List, [], _∷_, _++_}
-use Prim.Native.Nat.{ℕ, zero, suc, _+_, _≤_, _<_}
+use mathlib.Core.List.{List, [], _∷_}
+use Prim.Native.Nat.{ℕ, _+_, _≤_, _<_}
 use lib.ListN.{length, getD}
 use lib.IntN.{natAbs}
 use lib.Ieee.{Float, nan, inf}
@@ -12,12 +12,9 @@ use Rattle.grid.specs.Grid.{Length, sixtyFourths}
 use Rattle.flexing.specs.declared.Item.{Item}
 use Rattle.flexing.specs.declared.Line.{Line}
 use Rattle.flexing.specs.declared.Sums.{Sums}
+use Rattle.refusal.specs.Marks.{Sound}
+use Rattle.flexing.specs.Call.{Lists, count, itemAt, inputOf, each}
 use Rattle.flexing.specs.Flex.{Cell, taken, factor, weight, total, left, outerSum, after, Runs, _⊕_}
-
--- f 0, f 1, .. up to f (n − 1)
-unfoldable pub each : {A : Type 0} → ℕ → (ℕ → A) → List A
-each zero f = []
-each (suc n) f = each n f ++ (f n ∷ [])
 
 -- ---- the table: a column of 1,024 cells for each number of an item
 
@@ -39,6 +36,7 @@ itemsIn t from n = each n (λ i. itemIn t (from + i))
 
 -- a column that was written: its first n cells are f's, and the cells of other columns are as they were
 pub record Stored (column n : ℕ) (f : ℕ → Float) (old new : List Float) : Type 0 where
+  pub long : length new ≡ length old
   pub here : (i : ℕ) → i < n → getD new (column + i) nan ≡ f i
   pub others : (j : ℕ) → (j < column) ⊎ (column + 1024 ≤ j) → getD new j nan ≡ getD old j nan
 
@@ -54,19 +52,22 @@ cellsOf t from n frozen targets = each n (cellAt t from frozen targets)
 abbrev pub Kept : ℕ → List Float → List Float → Type 0
 Kept n old new = (k : ℕ) → n ≤ k → getD new k nan ≡ getD old k nan
 
--- the line is in the table, and has room in the targets
-abbrev pub Room : ℕ → ℕ → List Float → Type 0
-Room from n targets = (from + n ≤ 1024) × (n ≤ length targets)
+-- the line is in the table, and has room in the marks and the targets
+pub record Room (from n : ℕ) (frozen : List Bool) (targets : List Float) : Type 0 where
+  pub inside : from + n ≤ 1024
+  pub marks : n ≤ length frozen
+  pub room : n ≤ length targets
 
 -- the marks and targets after a call are the given cells, and the targets past them as before
-pub record Rewritten (t : List Float) (from n : ℕ) (cells : List Cell) (targets₀ : List Float) (frozen : List Bool) (targets : List Float) : Type 0 where
+pub record Rewritten (t : List Float) (from n : ℕ) (cells : List Cell) (frozen₀ : List Bool) (targets₀ : List Float) (frozen : List Bool) (targets : List Float) : Type 0 where
   pub cells-are : cellsOf t from n frozen targets ≡ cells
+  pub marks-long : length frozen ≡ length frozen₀
   pub kept : Kept n targets₀ targets
 
 -- all rounds, from the marks and targets before a call
 pub record Ran (t : List Float) (from n : ℕ) (ln : Line) (rounds : ℕ) (frozen₀ : List Bool) (targets₀ : List Float) (frozen : List Bool) (targets : List Float) : Type 0 where
   pub number : Runs ln (cellsOf t from n frozen₀ targets₀) rounds
-  pub written : Rewritten t from n (after ln rounds (cellsOf t from n frozen₀ targets₀)) targets₀ frozen targets
+  pub written : Rewritten t from n (after ln rounds (cellsOf t from n frozen₀ targets₀)) frozen₀ targets₀ frozen targets
 
 -- ---- the sums of a round
 
@@ -105,3 +106,32 @@ pub record Accepted (inner gap : Float) (items : List Item) : Type 0 where
   pub gap-is : Length gap
   pub items-are : Every Measured items
   pub within : outerSum gap items ≤ 16777216
+
+-- the n items of the table are measured
+abbrev pub Tabled : List Float → ℕ → Type 0
+Tabled t n = (i : ℕ) → i < n → Measured (itemIn t i)
+
+-- ---- what checks 1 to 5 show of a call
+
+-- the lists are of one length
+pub record Even (ls : Lists) : Type 0 where
+  pub few : count ls ≤ 1024
+  pub minimum : length (ls .minimum) ≡ count ls
+  pub maximum : length (ls .maximum) ≡ count ls
+  pub has-maximum : length (ls .has-maximum) ≡ count ls
+  pub edges : length (ls .edges) ≡ count ls
+  pub grow : length (ls .grow) ≡ count ls
+  pub shrink : length (ls .shrink) ≡ count ls
+  pub start : length (ls .start) ≡ count ls
+  pub end : length (ls .end) ≡ count ls
+  pub auto-start : length (ls .auto-start) ≡ count ls
+  pub auto-end : length (ls .auto-end) ≡ count ls
+
+-- and the table holds them
+abbrev pub Held : Lists → List Float → Type 0
+Held ls t = (i : ℕ) → i < count ls → itemIn t i ≡ itemAt ls i
+
+pub record Checked (inner gap : Float) (ls : Lists) (targets : List Float) : Type 0 where
+  pub even : Even ls
+  pub room : count ls ≤ length targets
+  pub sound : Sound (inputOf inner gap ls)

@@ -1,2 +1,3 @@
 pub mod Flex
+pub mod Call
 pub mod Cells

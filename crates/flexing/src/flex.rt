@@ -9,10 +9,14 @@ ghost use lib.Ieee.{Float, nan};
 ghost use Rattle.grid.specs.Grid.{cleaned};
 ghost use Rattle.flexing.specs.Flex.{total, outer, hypothetical, unfrozen, first, freeBefore, Flexed};
 ghost use Rattle.flexing.specs.Cells.{itemsIn, cellsOf, Kept, Room, Rewritten, Ran, Accepted};
-use crate::sizes::{hypothetical_size, is_inflexible, outer_size};
-use crate::rounds::{gaps_of, one_round, sum_up};
-use crate::table::pick;
 use crate::Line;
+use crate::rounds::gaps_of;
+use crate::rounds::one_round;
+use crate::rounds::sum_up;
+use crate::sizes::hypothetical_size;
+use crate::sizes::is_inflexible;
+use crate::sizes::outer_size;
+use crate::table::pick;
 
 // The sum of the hypothetical outer sizes.
 fn hypothetical_sum(table: &[f32; 8192], from: usize, n: usize) -> f32
@@ -30,7 +34,13 @@ fn hypothetical_sum(table: &[f32; 8192], from: usize, n: usize) -> f32
 }
 
 // The free space before flexing. On accepted lines the sums are exact, so the difference is taken in whole sixty-fourths.
-fn free_before(table: &[f32; 8192], from: usize, n: usize, inner: f32, gap: f32) -> grid::Sixtyfourths
+fn free_before(
+    table: &[f32; 8192],
+    from: usize,
+    n: usize,
+    inner: f32,
+    gap: f32,
+) -> grid::Sixtyfourths
     requires { ⌜ (from + n ≤ 1024) × Accepted inner gap (itemsIn (now table) from n) ⌝ }
     ensures { λ r. ⌜ r .0 ≡ freeBefore inner gap (itemsIn (now (table .entry)) from n) ⌝ }
 {
@@ -48,9 +58,16 @@ fn is_growing(free: grid::Sixtyfourths) -> bool
 }
 
 // Step 2: freezes the inflexible items; every target is the hypothetical size.
-fn begin(table: &[f32; 8192], from: usize, n: usize, growing: bool, frozen: &mut [bool; 1024], targets: &mut [f32])
-    requires { ⌜ Room from n (now targets) ⌝ }
-    ensures { λ _. ⌜ Rewritten (now (table .entry)) from n (map (first growing) (itemsIn (now (table .entry)) from n)) (now (targets .entry)) (now (frozen .exit)) (now (targets .exit)) ⌝ }
+fn begin(
+    table: &[f32; 8192],
+    from: usize,
+    n: usize,
+    growing: bool,
+    frozen: &mut [bool; 1024],
+    targets: &mut [f32],
+)
+    requires { ⌜ Room from n (now frozen) (now targets) ⌝ }
+    ensures { λ _. ⌜ Rewritten (now (table .entry)) from n (map (first growing) (itemsIn (now (table .entry)) from n)) (now (frozen .entry)) (now (targets .entry)) (now (frozen .exit)) (now (targets .exit)) ⌝ }
 {
     let mut i = 0;
     while i < n {
@@ -80,8 +97,15 @@ fn count_left(frozen: &[bool; 1024], n: usize) -> usize
 }
 
 // Step 4: the rounds, counted. Each freezes an item, so that there are no more of them than items.
-fn run_rounds(table: &[f32; 8192], from: usize, n: usize, ln: Line, frozen: &mut [bool; 1024], targets: &mut [f32]) -> u32
-    requires { ⌜ Room from n (now targets) ⌝ }
+fn run_rounds(
+    table: &[f32; 8192],
+    from: usize,
+    n: usize,
+    ln: Line,
+    frozen: &mut [bool; 1024],
+    targets: &mut [f32],
+) -> u32
+    requires { ⌜ Room from n (now frozen) (now targets) ⌝ }
     ensures { λ r. ⌜ Ran (now (table .entry)) from n ln r (now (frozen .entry)) (now (targets .entry)) (now (frozen .exit)) (now (targets .exit)) ⌝ }
 {
     let mut rounds = 0;
@@ -112,8 +136,15 @@ pub struct Flexing {
 }
 
 // Flexes the n items at `from`, which the checks have accepted. What it asks is what they show.
-pub fn flex_items(table: &[f32; 8192], from: usize, n: usize, inner: f32, gap: f32, targets: &mut [f32]) -> Flexing
-    requires { ⌜ Room from n (now targets) × Accepted inner gap (itemsIn (now table) from n) ⌝ }
+pub fn flex_items(
+    table: &[f32; 8192],
+    from: usize,
+    n: usize,
+    inner: f32,
+    gap: f32,
+    targets: &mut [f32],
+) -> Flexing
+    requires { ⌜ (from + n ≤ 1024) × (n ≤ length (now targets)) × Accepted inner gap (itemsIn (now table) from n) ⌝ }
     ensures { λ r. ⌜ Flexed inner gap (itemsIn (now (table .entry)) from n) (r .free .0) (r .rounds) (now (targets .entry)) (now (targets .exit)) ⌝ }
 {
     let free = free_before(table, from, n, inner, gap);

@@ -6,9 +6,19 @@ ghost use lib.ListN.{length};
 ghost use lib.Ieee.{Float};
 ghost use Rattle.flexing.specs.Flex.{gaps, total, left, violation, settle, round};
 ghost use Rattle.flexing.specs.Cells.{cellsOf, Room, Rewritten, Added, Summed};
-use crate::sizes::{clamped, factor_of, flexed_size, is_frozen, limit, outer_size, violation_of, weight_of};
+use crate::Item;
+use crate::Line;
+use crate::Share;
+use crate::Sums;
+use crate::sizes::clamped;
+use crate::sizes::factor_of;
+use crate::sizes::flexed_size;
+use crate::sizes::is_frozen;
+use crate::sizes::limit;
+use crate::sizes::outer_size;
+use crate::sizes::violation_of;
+use crate::sizes::weight_of;
 use crate::table::pick;
-use crate::{Item, Line, Share, Sums};
 
 pub fn gaps_of(gap: f32, n: usize) -> f32
     requires { ⌜ n ≤ 1024 ⌝ }
@@ -37,8 +47,15 @@ fn add_up(s: Sums, it: Item, growing: bool, frozen: bool, target: f32) -> Sums
     }
 }
 
-pub fn sum_up(table: &[f32; 8192], from: usize, n: usize, growing: bool, frozen: &[bool; 1024], targets: &[f32]) -> Sums
-    requires { ⌜ Room from n (now targets) ⌝ }
+pub fn sum_up(
+    table: &[f32; 8192],
+    from: usize,
+    n: usize,
+    growing: bool,
+    frozen: &[bool; 1024],
+    targets: &[f32],
+) -> Sums
+    requires { ⌜ (from + n ≤ 1024) × (n ≤ length (now targets)) ⌝ }
     ensures { λ r. ⌜ Summed growing (cellsOf (now (table .entry)) from n (now (frozen .entry)) (now (targets .entry))) r ⌝ }
 {
     let mut s = Sums {
@@ -75,9 +92,17 @@ fn violations(table: &[f32; 8192], from: usize, n: usize, sh: Share, frozen: &[b
 }
 
 // Gives each unfrozen item its clamped size, and freezes it or not, by the total of the violations.
-fn settle_all(table: &[f32; 8192], from: usize, n: usize, sh: Share, sum: f32, frozen: &mut [bool; 1024], targets: &mut [f32])
-    requires { ⌜ Room from n (now targets) ⌝ }
-    ensures { λ _. ⌜ Rewritten (now (table .entry)) from n (map (settle sh sum) (cellsOf (now (table .entry)) from n (now (frozen .entry)) (now (targets .entry)))) (now (targets .entry)) (now (frozen .exit)) (now (targets .exit)) ⌝ }
+fn settle_all(
+    table: &[f32; 8192],
+    from: usize,
+    n: usize,
+    sh: Share,
+    sum: f32,
+    frozen: &mut [bool; 1024],
+    targets: &mut [f32],
+)
+    requires { ⌜ Room from n (now frozen) (now targets) ⌝ }
+    ensures { λ _. ⌜ Rewritten (now (table .entry)) from n (map (settle sh sum) (cellsOf (now (table .entry)) from n (now (frozen .entry)) (now (targets .entry)))) (now (frozen .entry)) (now (targets .entry)) (now (frozen .exit)) (now (targets .exit)) ⌝ }
 {
     let mut i = 0;
     while i < n {
@@ -92,9 +117,16 @@ fn settle_all(table: &[f32; 8192], from: usize, n: usize, sh: Share, sum: f32, f
     }
 }
 
-pub fn one_round(table: &[f32; 8192], from: usize, n: usize, ln: Line, frozen: &mut [bool; 1024], targets: &mut [f32])
-    requires { ⌜ Room from n (now targets) ⌝ }
-    ensures { λ _. ⌜ Rewritten (now (table .entry)) from n (round ln (cellsOf (now (table .entry)) from n (now (frozen .entry)) (now (targets .entry)))) (now (targets .entry)) (now (frozen .exit)) (now (targets .exit)) ⌝ }
+pub fn one_round(
+    table: &[f32; 8192],
+    from: usize,
+    n: usize,
+    ln: Line,
+    frozen: &mut [bool; 1024],
+    targets: &mut [f32],
+)
+    requires { ⌜ Room from n (now frozen) (now targets) ⌝ }
+    ensures { λ _. ⌜ Rewritten (now (table .entry)) from n (round ln (cellsOf (now (table .entry)) from n (now (frozen .entry)) (now (targets .entry)))) (now (frozen .entry)) (now (targets .entry)) (now (frozen .exit)) (now (targets .exit)) ⌝ }
 {
     let s = sum_up(table, from, n, ln.growing, frozen, targets);
     let space = ln.inner - (gaps_of(ln.gap, n) + s.outer);

@@ -2,7 +2,8 @@
 ghost use mathlib.Core.Path.{_≡_};
 ghost use lib.IntN.{natAbs};
 ghost use Rattle.flexing.specs.Flex.{raised, lowered, magnitude, clamp, hypothetical, innerBase, outer, factor, weight, inflexible, flexed, violation, freezes, limited};
-use crate::{Item, Share};
+use crate::Item;
+use crate::Share;
 
 fn raise(x: f32, y: f32) -> f32
     ensures { λ r. ⌜ r ≡ raised x y ⌝ }

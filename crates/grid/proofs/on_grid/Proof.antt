@@ -1,5 +1,5 @@
 -- `grid::on_grid` meets its contract. Assumes nothing.
-use mathlib.Core.Path.{_∙_, ap₂, sym}
+use mathlib.Core.Path.{_∙_, ap₂}
 use denote.Floats.{passes}
 use lib.Ieee.{Float, binary32, rem, eq}
 use Rattle.grid.proofs.Meaning.{grid-test, none-bits, step-bits}

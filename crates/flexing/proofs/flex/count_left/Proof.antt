@@ -1,13 +1,14 @@
 -- How many items are not frozen: the count so far is that of the first i cells, whatever items and targets stand beside the marks. Assumes nothing.
 use mathlib.Core.Path.{_≡_, sym, subst}
 use mathlib.Core.List.{List}
-use Prim.Native.Nat.{ℕ, _-_, _≤_, _<_, zero-le}
+use Prim.Native.Nat.{ℕ, _-_, _≤_, zero-le}
 use native.Mathlib.Nat.{le-refl, le-antisymm}
 use native.Mathlib.Omega.{arith}
 use lib.Ieee.{Float}
 use denote.Ref.{now}
 use Rattle.flexing.specs.Flex.{unfrozen}
-use Rattle.flexing.specs.Cells.{each, cellAt}
+use Rattle.flexing.specs.Call.{each}
+use Rattle.flexing.specs.Cells.{cellAt}
 use Rattle.flexing.proofs.Each.{unfrozen-none, count-turn, count-pass}
 use Rattle.flexing.proofs.flex.count_left.Statement.{statement}
 use Rattle.flexing.proofs.flex.count_left.Tie as tie

@@ -1,14 +1,15 @@
 -- The sum of the hypothetical outer sizes: the sum so far is that of the first i items. Assumes nothing.
 use borrow.Author.Needs.{needs}
 use mathlib.Core.Path.{_≡_, sym, ap, _∙_, subst}
-use Prim.Native.Nat.{ℕ, _+_, _-_, _≤_, _<_, zero-le}
+use Prim.Native.Nat.{ℕ, _+_, _-_, _≤_, zero-le}
 use native.Mathlib.Nat.{le-antisymm}
 use native.Mathlib.Omega.{arith}
 use lib.Ieee.{Float}
 use denote.Ref.{now}
 use Rattle.flexing.specs.declared.Item.{Item}
 use Rattle.flexing.specs.Flex.{total, outer, hypothetical}
-use Rattle.flexing.specs.Cells.{each, itemIn}
+use Rattle.flexing.specs.Call.{each}
+use Rattle.flexing.specs.Cells.{itemIn}
 use Rattle.flexing.proofs.Each.{total-none, sum-turn}
 use Rattle.flexing.proofs.flex.hypothetical_sum.Statement.{statement}
 use Rattle.flexing.proofs.flex.hypothetical_sum.Tie as tie

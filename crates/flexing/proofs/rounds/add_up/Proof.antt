@@ -1,3 +1,4 @@
+-- One cell more in the sums of a round: frozen and unfrozen cells apart. Assumes nothing.
 use borrow.Author.Needs.{needs}
 use Rattle.flexing.proofs.rounds.add_up.Statement.{statement}
 use Rattle.flexing.proofs.rounds.add_up.Tie as tie
@@ -6,7 +7,6 @@ use Rattle.flexing.proofs.rounds.add_up.Lts as lts
 use Rattle.flexing.proofs.sizes.factor_of.Reads as factor-of-reads
 use Rattle.flexing.proofs.sizes.outer_size.Reads as outer-size-reads
 use Rattle.flexing.proofs.sizes.weight_of.Reads as weight-of-reads
-use mathlib.Core.Path.{refl}
 
 outer-size-requires : tie.Need-outer-size-requires
 outer-size-requires c κs = search needs

@@ -1,12 +1,12 @@
--- `flexing::gaps_of` meets its contract. Assumes nothing.
+-- The gaps of a line: none for no items, and else one fewer than the items. Assumes nothing.
 use borrow.Author.Needs.{needs}
-use mathlib.Core.Path.{_≡_, refl, sym, ap}
+use mathlib.Core.Path.{_≡_, refl, ap}
 use Prim.Native.Nat.{ℕ, zero, suc, _-_, _≤_}
 use native.Mathlib.Nat.{le-trans}
 use native.Mathlib.Omega.{arith}
 use lib.Dec.{T, lit≤, le→leb}
 use lib.IntN.{pos}
-use lib.Ieee.{Float, binary32, inFloat, ofInt, ofBits, mul}
+use lib.Ieee.{Float, binary32, inFloat, ofInt}
 use Rattle.flexing.specs.Flex.{gaps, nought, _⊗_}
 use Rattle.flexing.proofs.rounds.gaps_of.Statement.{statement}
 use Rattle.flexing.proofs.rounds.gaps_of.Tie as tie

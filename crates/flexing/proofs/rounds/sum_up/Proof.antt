@@ -1,18 +1,18 @@
 -- The sums of a round: those so far are of the first i cells, and a turn adds one. Assumes nothing.
 use borrow.Author.Needs.{needs, scaled-fits}
-use mathlib.Core.Path.{_≡_, refl, sym, _∙_, subst}
+use mathlib.Core.Path.{refl, sym, _∙_, subst}
 use mathlib.Core.Bool.{Bool, false}
-use mathlib.Core.List.{List}
-use Prim.Native.Nat.{ℕ, _+_, _-_, _≤_, _<_, zero-le}
+use Prim.Native.Nat.{ℕ, _+_, _-_, _≤_, zero-le}
 use native.Mathlib.Nat.{le-antisymm}
 use native.Mathlib.Omega.{arith}
-use lib.ListN.{length, getD}
-use lib.Ieee.{Float, nan}
+use lib.ListN.{getD}
+use lib.Ieee.{nan}
 use denote.Ref.{now}
 use Rattle.flexing.specs.declared.Item.{Item}
 use Rattle.flexing.specs.declared.Sums.{Sums}
 use Rattle.flexing.specs.Flex.{Cell, taken, factor, weight}
-use Rattle.flexing.specs.Cells.{each, cellAt, itemIn, Added, Summed}
+use Rattle.flexing.specs.Call.{each}
+use Rattle.flexing.specs.Cells.{cellAt, Added, Summed}
 use Rattle.flexing.proofs.Each.{total-none, left-none, sum-turn, left-sum}
 use Rattle.flexing.proofs.rounds.sum_up.Statement.{statement}
 use Rattle.flexing.proofs.rounds.sum_up.Tie as tie

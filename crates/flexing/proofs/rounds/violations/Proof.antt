@@ -2,14 +2,15 @@
 use borrow.Author.Needs.{needs}
 use mathlib.Core.Path.{_≡_, sym, ap, _∙_, subst}
 use mathlib.Core.List.{List}
-use Prim.Native.Nat.{ℕ, _+_, _-_, _≤_, _<_, zero-le}
+use Prim.Native.Nat.{ℕ, _-_, _≤_, zero-le}
 use native.Mathlib.Nat.{le-antisymm}
 use native.Mathlib.Omega.{arith}
 use lib.Ieee.{Float}
 use denote.Ref.{now}
 use Rattle.flexing.specs.declared.Item.{Item}
 use Rattle.flexing.specs.Flex.{total, left, violation}
-use Rattle.flexing.specs.Cells.{each, cellAt}
+use Rattle.flexing.specs.Call.{each}
+use Rattle.flexing.specs.Cells.{cellAt}
 use Rattle.flexing.proofs.Each.{left-none, left-turn, left-pass}
 use Rattle.flexing.proofs.rounds.violations.Statement.{statement}
 use Rattle.flexing.proofs.rounds.violations.Tie as tie

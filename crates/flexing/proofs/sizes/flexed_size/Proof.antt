@@ -1,3 +1,4 @@
+-- Step 4c: each way through the tests is the definition under what they showed. Assumes nothing.
 use borrow.Author.Needs.{needs}
 use Rattle.flexing.proofs.sizes.flexed_size.Statement.{statement}
 use Rattle.flexing.proofs.sizes.flexed_size.Tie as tie

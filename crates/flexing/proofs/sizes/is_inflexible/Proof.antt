@@ -1,3 +1,4 @@
+-- Step 2: each way through the tests is the definition under what they showed. Assumes nothing.
 use borrow.Author.Needs.{needs}
 use Rattle.flexing.proofs.sizes.is_inflexible.Statement.{statement}
 use Rattle.flexing.proofs.sizes.is_inflexible.Tie as tie

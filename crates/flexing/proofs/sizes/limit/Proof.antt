@@ -1,3 +1,4 @@
+-- Step 4b: each way through the two tests is the definition under what the tests showed. Assumes nothing.
 use borrow.Author.Needs.{needs}
 use Rattle.flexing.proofs.sizes.limit.Statement.{statement}
 use Rattle.flexing.proofs.sizes.limit.Tie as tie

@@ -1,3 +1,4 @@
+-- x, lowered to y where it is above: both branches compute. Assumes nothing.
 use Rattle.flexing.proofs.sizes.lower.Statement.{statement}
 use Rattle.flexing.proofs.sizes.lower.Tie as tie
 use Rattle.flexing.proofs.sizes.lower.Reads as reads

@@ -1,3 +1,4 @@
+-- The magnitude of a float: both branches compute. Assumes nothing.
 use Rattle.flexing.proofs.sizes.magnitude_of.Statement.{statement}
 use Rattle.flexing.proofs.sizes.magnitude_of.Tie as tie
 use Rattle.flexing.proofs.sizes.magnitude_of.Reads as reads

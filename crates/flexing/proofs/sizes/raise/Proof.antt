@@ -1,3 +1,4 @@
+-- x, raised to y where it is below: both branches compute. Assumes nothing.
 use Rattle.flexing.proofs.sizes.raise.Statement.{statement}
 use Rattle.flexing.proofs.sizes.raise.Tie as tie
 use Rattle.flexing.proofs.sizes.raise.Reads as reads

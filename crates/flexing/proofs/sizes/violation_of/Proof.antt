@@ -1,3 +1,4 @@
+-- Step 4d: the clamped size less the unclamped, from the two contracts. Assumes nothing.
 use borrow.Author.Needs.{needs}
 use Rattle.flexing.proofs.sizes.violation_of.Statement.{statement}
 use Rattle.flexing.proofs.sizes.violation_of.Tie as tie

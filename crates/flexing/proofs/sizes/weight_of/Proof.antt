@@ -1,3 +1,4 @@
+-- What an item weighs: each branch is the definition under its test. Assumes nothing.
 use borrow.Author.Needs.{needs}
 use Rattle.flexing.proofs.sizes.weight_of.Statement.{statement}
 use Rattle.flexing.proofs.sizes.weight_of.Tie as tie

@@ -1,3 +1,0 @@
-pub mod Flex
-pub mod Cells
-pub mod Reach

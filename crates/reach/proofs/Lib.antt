@@ -1,0 +1,16 @@
+pub mod Rounding
+pub mod Units
+pub mod Times
+pub mod Totals
+pub mod Clamp
+pub mod Turn
+pub mod Parts
+pub mod Space
+pub mod Limits
+pub mod Settled
+pub mod Levels
+pub mod Fewer
+pub mod Step
+pub mod Domain
+pub mod Start
+pub mod Reach
