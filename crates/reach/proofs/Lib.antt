@@ -14,3 +14,4 @@ pub mod Step
 pub mod Domain
 pub mod Start
 pub mod Reach
+pub mod Line
