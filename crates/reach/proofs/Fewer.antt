@@ -12,7 +12,8 @@ use Rattle.flexing.specs.declared.Item.{Item}
 use Rattle.flexing.specs.declared.Share.{Share}
 use Rattle.flexing.specs.Flex.{Cell, left, sumFrom, total, factor, settle, nought, _⊕_}
 use Rattle.flexing.proofs.Signs.{All}
-use Rattle.reach.proofs.Units.{px, Num, far, fl, fl-mono, held-num, Sum, sum-num, sum-under, sum-above}
+use Rattle.reach.proofs.Units.{px, Num, far, fl, fl-mono, held-num}
+use Rattle.reach.proofs.Plus.{Sum, sum-num, sum-under, sum-above}
 use Rattle.reach.proofs.Times.{nought-num}
 use Rattle.reach.proofs.Clamp.{Upto}
 use Rattle.reach.proofs.Totals.{all-map, count, count-most, count-long}

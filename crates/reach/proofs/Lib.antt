@@ -1,5 +1,6 @@
 pub mod Rounding
 pub mod Units
+pub mod Plus
 pub mod Times
 pub mod Totals
 pub mod Clamp
@@ -12,6 +13,7 @@ pub mod Levels
 pub mod Fewer
 pub mod Step
 pub mod Domain
+pub mod Outer
 pub mod Start
 pub mod Reach
 pub mod Line

@@ -12,7 +12,8 @@ use lib.Ieee.{Float, binary32, add, sub, neg}
 use Rattle.flexing.specs.declared.Item.{Item}
 use Rattle.flexing.specs.Flex.{Cell, taken, total, sumFrom, nought, _⊕_, _⊖_}
 use Rattle.flexing.proofs.Signs.{All}
-use Rattle.reach.proofs.Units.{px, Num, far, one-side, neg-num, Sum, sum-num, sum-near, sum-under}
+use Rattle.reach.proofs.Units.{px, Num, far, one-side, neg-num}
+use Rattle.reach.proofs.Plus.{Sum, sum-num, sum-near, sum-under}
 use Rattle.reach.proofs.Times.{nought-num}
 use Rattle.reach.proofs.Clamp.{Upto, bounded}
 use Rattle.reach.proofs.Totals.{all-map, count, count-all, count-most, count-none, count-long, Near, total-near, total-under}

@@ -11,7 +11,8 @@ use lib.ListN.{length}
 use lib.Ieee.{Float, binary32, add}
 use Rattle.flexing.specs.Flex.{sumFrom, _⊕_}
 use Rattle.flexing.proofs.Signs.{All}
-use Rattle.reach.proofs.Units.{Num, far, fl, fl-near, fl-mono, held-num, one-side, Sum, sum-num, sum-near, sum-under, sum-above}
+use Rattle.reach.proofs.Units.{Num, far, fl, fl-near, fl-mono, held-num, one-side}
+use Rattle.reach.proofs.Plus.{Sum, sum-num, sum-near, sum-under, sum-above}
 
 -- ---- what holds of each of a list
 

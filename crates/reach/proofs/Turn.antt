@@ -10,7 +10,8 @@ use lib.Ieee.{Float, binary32, lt, eq, add, sub, mul, div, neg}
 use Rattle.flexing.specs.declared.Item.{Item}
 use Rattle.flexing.specs.declared.Share.{Share}
 use Rattle.flexing.specs.Flex.{raised, clamp, innerBase, factor, weight, flexed, violation, nought, _⊕_, _⊖_, _⊗_, _⊘_}
-use Rattle.reach.proofs.Units.{px, px-pos, Num, far, fl, fl-near, held-num, one-side, neg-num, Sum, sum-num, sum-near, sum-under, sum-side, sum-keeps}
+use Rattle.reach.proofs.Units.{px, px-pos, Num, far, fl, fl-near, held-num, one-side, neg-num}
+use Rattle.reach.proofs.Plus.{Sum, sum-num, sum-near, sum-under, sum-side, sum-keeps}
 use Rattle.reach.proofs.Times.{product, product-mono, product-within, product-zero, product-le, Product, mul-num, quotient, quotient-within, Quotient, div-num, nought-num, eq-nought}
 use Rattle.reach.proofs.Clamp.{Upto, Sizes, raised-num, bounded, bounded-mono, bounded-under, clamp-num, floor, ceiling, raised-small, lowered-small}
 
