@@ -1,7 +1,7 @@
 -- A test of range by two comparisons, and what it says of sixty-fourths. Assumes nothing.
 use mathlib.Core.Path.{_≡_, refl, sym, ap, ap₂, _∙_, subst}
 use mathlib.Core.Logic.{_↔_}
-use mathlib.Core.Bool.{Bool, true, false, not, cond}
+use mathlib.Core.Bool.{Bool, true, false, not, _&&_, cond, false≢true}
 use Prim.Native.Nat.{ℕ, zero, suc, _*_, _/_, _%_, _^_, _≤_, _<_}
 use native.Mathlib.Nat.{mul-one, one-mul, mul-comm, mul-assoc, mul-right-comm, mul-le-mul-right, le-of-mul-le-mul-right, zero-lt-suc}
 use native.Mathlib.Omega.{arith}
@@ -14,7 +14,7 @@ use lib.Ieee.Scale.{finite}
 use lib.Ieee.Exact.{HasValue}
 use Rattle.grid.specs.Grid.{signed, At, onGrid, sixtyFourths, within}
 use Rattle.grid.proofs.Exact.{le-at}
-use Rattle.grid.proofs.Meaning.{at-of-grid}
+use Rattle.grid.proofs.Meaning.{at-of-grid, none, none-at}
 
 -- the float 2 ^ k
 abbrev pub two^ : ℕ → Float
@@ -54,6 +54,46 @@ range-test k (fin s m e) = go s (le-at (down e) (down-pos e) own high) (le-at (d
         same true = refl
         same false = refl
     go true p q = ap₂ (λ (a b : Bool). cond a b false) (p ∙ above-neg (m * up e) (2 ^ k * down e)) (q ∙ neg-le (2 ^ k * down e) (m * up e))
+
+-- what is not below 0 is not below -2 ^ k
+above-none : (k : ℕ) (x : Float) → le none x ≡ true → le (neg (two^ k)) x ≡ true
+unfolding le neg
+above-none k nan h = absurd (false≢true h)
+above-none k (inf false) h = refl
+above-none k (inf true) h = absurd (false≢true h)
+above-none k (fin s m e) h = le-at (down e) (down-pos e) low (own s) ∙ go s (sym (le-at (down e) (down-pos e) (none-at (down e)) (own s)) ∙ h)
+  where
+    own : (t : Bool) → At (down e) (fin t m e) (signed t (m * up e))
+    own t = record { sign = t; size = m * up e; value = (refl, refl); total = refl }
+
+    low : At (down e) (neg (two^ k)) (negℤ (pos (2 ^ k * down e)))
+    low = record { sign = true; size = 2 ^ k * down e; value = (refl, ap (λ (n : ℕ). n * down e) (one-mul (2 ^ k)) ∙ sym (mul-one (2 ^ k * down e))); total = refl }
+
+    go : (t : Bool) → leZ (pos 0) (signed t (m * up e)) ≡ true → leZ (negℤ (pos (2 ^ k * down e))) (signed t (m * up e)) ≡ true
+    go false q = above-neg (2 ^ k * down e) (m * up e)
+    go true q = zero-or (m * up e) q
+      where
+        zero-or : (n : ℕ) → leZ (pos 0) (negℤ (pos n)) ≡ true → leZ (negℤ (pos (2 ^ k * down e))) (negℤ (pos n)) ≡ true
+        zero-or zero q = above-neg (2 ^ k * down e) 0
+        zero-or (suc n) q = absurd (false≢true q)
+
+-- the same where a number may not be below 0
+pub range-from-0 : (k : ℕ) (x : Float) → cond (le x (two^ k)) (le none x) false ≡ within (2 ^ k) x && le none x
+range-from-0 k x = go (le none x) (above-none k x) (range-test k x)
+  where
+    go : (b : Bool) → (b ≡ true → le (neg (two^ k)) x ≡ true) → cond (le x (two^ k)) (le (neg (two^ k)) x) false ≡ within (2 ^ k) x → cond (le x (two^ k)) b false ≡ within (2 ^ k) x && b
+    go true f e = ap (λ (d : Bool). cond (le x (two^ k)) d false) (sym (f refl)) ∙ e ∙ sym (and-true (within (2 ^ k) x))
+      where
+        and-true : (d : Bool) → d && true ≡ d
+        and-true true = refl
+        and-true false = refl
+    go false f e = never (le x (two^ k)) (within (2 ^ k) x)
+      where
+        never : (p q : Bool) → cond p false false ≡ q && false
+        never true true = refl
+        never true false = refl
+        never false true = refl
+        never false false = refl
 
 -- ---- the range of a length, in sixty-fourths
 -- M / d is A / 64: at most n exactly where A is at most n * 64

@@ -1,9 +1,10 @@
 -- Marks: the first of checks 3, 4 and 5 that a number fails, and its place, in one number, so that the least mark is the refusal that comes
 -- first. What the leaves' contracts cite; `judged-checked` of proofs/ says that it is document 01's order of checks. Assumes nothing.
+use mathlib.Core.Path.{_≡_}
 use mathlib.Core.Bool.{Bool, true, false, cond}
 use mathlib.Core.List.{List, [], _∷_}
 use Prim.Native.Nat.{ℕ, zero, suc, _+_, _-_, _<_, min}
-use lib.Dec.{ltb}
+use lib.Dec.{T, ltb}
 use lib.ListN.{length, getD}
 use lib.Ieee.{Float, nan}
 use Rattle.grid.specs.Grid.{Length}
@@ -48,3 +49,19 @@ sumUpTo f (suc n) = sumUpTo f n + f n
 -- every number of the list is a length
 pub record Lengths (xs : List Float) : Type 0 where
   pub each : (i : ℕ) → i < length xs → Length (getD xs i nan)
+
+-- none of checks 3, 4 and 5 refuses a number
+pub record Fine (x : Number) : Type 0 where
+  pub finite : notFinite x ≡ false
+  pub grid : offGrid x ≡ false
+  pub range : outOfRange x ≡ false
+
+-- nor any number of a list
+abbrev pub AllFine : List Number → Type 0
+AllFine [] = T true
+AllFine (x ∷ l) = Fine x × AllFine l
+
+-- nor any of an input
+pub record Sound (input : Input) : Type 0 where
+  pub container : AllFine (input .container)
+  pub items : (i : ℕ) → i < input .count → AllFine (input .item i)

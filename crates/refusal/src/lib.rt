@@ -7,7 +7,7 @@ ghost use lib.ListN.{length, getD};
 ghost use lib.IntN.{natAbs};
 ghost use lib.Ieee.{nan};
 ghost use Rattle.grid.specs.Grid.{Length, sixtyFourths};
-ghost use Rattle.refusal.specs.Domain.{gridded, inRange, float, code, shape, summed, asAnswer};
+ghost use Rattle.refusal.specs.Domain.{gridded, offGrid, inRange, float, code, shape, summed, asAnswer};
 ghost use Rattle.refusal.specs.Marks.{mark, leastUpTo, judged, placeOf, sumUpTo, Lengths};
 
 // What a number is, and so which grid and range it is held to.
@@ -65,6 +65,16 @@ fn has_grid(kind: Kind) -> bool
     }
 }
 
+fn off_grid(kind: Kind, x: f32) -> bool
+    ensures { λ r. ⌜ r ≡ offGrid (float kind x) ⌝ }
+{
+    if has_grid(kind) {
+        !grid::on_grid(x)
+    } else {
+        false
+    }
+}
+
 fn in_range(kind: Kind, x: f32) -> bool
     ensures { λ r. ⌜ r ≡ inRange kind x ⌝ }
 {
@@ -96,10 +106,8 @@ pub fn mark_float(kind: Kind, x: f32, place: u32) -> Mark
     if !grid::is_finite(x) {
         return Mark(place);
     }
-    if has_grid(kind) {
-        if !grid::on_grid(x) {
-            return Mark(2048 + place);
-        }
+    if off_grid(kind, x) {
+        return Mark(2048 + place);
     }
     if in_range(kind, x) {
         Mark(6144)

@@ -1,0 +1,22 @@
+-- `refusal::answer_of` meets its contract, by the two cases of a verdict. Assumes nothing.
+use mathlib.Core.Path.{_≡_, sym, ap}
+use borrow.Author.Needs.{needs}
+use Rattle.refusal.specs.declared.Verdict.{Verdict}
+use Rattle.refusal.specs.Domain.{asAnswer}
+use Rattle.refusal.proofs.answer_of.Statement.{statement}
+use Rattle.refusal.proofs.answer_of.Tie as tie
+
+enum-told : tie.Need-enum-told
+enum-told c = search needs
+
+enum-known-v : tie.Need-enum-known-v
+enum-known-v c = search needs
+
+returns : tie.Need-returns
+returns c = let a = c .before .before .args in ap (λ (v : Verdict). asAnswer v (a .lines) (a .rounds)) (sym (c .enum-told .given .1))
+
+returns-2 : tie.Need-returns-2
+returns-2 c = let a = c .before .before .before .args in ap (λ (v : Verdict). asAnswer v (a .lines) (a .rounds)) (sym (c .before .v .given .1))
+
+pub answer-of-spec : {M : Type 1} → statement M
+answer-of-spec = tie.close (tie.spec enum-told enum-known-v returns returns-2)
