@@ -1,0 +1,25 @@
+-- `capture::float_at` meets its contract. Assumes nothing.
+use mathlib.Core.Path.{_∙_, ap}
+use lib.Ieee.{binary32, ofBits}
+use borrow.Author.Needs.{needs}
+use Rattle.capture.proofs.float_at.Statement.{statement}
+use Rattle.capture.proofs.float_at.Tie as tie
+use Rattle.capture.proofs.float_at.Reads as reads
+use Rattle.capture.proofs.float_at.Lts as lts
+use Rattle.capture.proofs.float_of.Reads as float-of-reads
+use Rattle.capture.proofs.word_at.Reads as word-at-reads
+
+-- src/lib.rt:70:14
+word-at-requires : tie.Need-word-at-requires
+word-at-requires c κs = search needs
+
+-- src/lib.rt:70:5
+float-of-requires : tie.Need-float-of-requires
+float-of-requires c κs = search needs
+
+-- src/lib.rt:66:1
+returns : tie.Need-returns
+returns c = c .float-of .ensures ∙ ap (ofBits binary32) (c .before .word-at .ensures)
+
+pub float-at-spec : {M : Type 1} → statement M
+float-at-spec = tie.close (tie.spec word-at-requires float-of-requires returns)
