@@ -1,2 +1,5 @@
 pub mod Nan
 pub mod Front
+pub mod Sound
+pub mod Items
+pub mod Resume
