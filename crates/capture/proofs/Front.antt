@@ -115,6 +115,15 @@ later-partial l e = go (later-cases l)
   go (Later.item k n) = let z : Item (float l 1) ≡ Partial = sym (later-item l k n) ∙ e in (let w : _≡_ {A = ℕ} 0 1 = cc in absurd (omega arith))
   go (Later.end k) = let z : End ≡ Partial = sym (later-end l k) ∙ e in (let w : _≡_ {A = ℕ} 0 1 = cc in absurd (omega arith))
 
+pub later-not-end : (l : List ℕ) → kind l ≡ 2 → laterFront l ≡ End → ⊥
+later-not-end l k e = go (later-cases l)
+  where
+  go : Later l → ⊥
+  go (Later.other h m) = h k
+  go (Later.cut m n) = let z : Partial ≡ End = sym (later-cut l m n) ∙ e in (let w : _≡_ {A = ℕ} 0 1 = cc in absurd (omega arith))
+  go (Later.item m n) = let z : Item (float l 1) ≡ End = sym (later-item l m n) ∙ e in (let w : _≡_ {A = ℕ} 0 1 = cc in absurd (omega arith))
+  go (Later.end m) = absurd (omega arith)
+
 -- ---- more bytes
 
 module _ (l rest : List ℕ) where
@@ -130,6 +139,9 @@ module _ (l rest : List ℕ) where
     go : (m : List ℕ) → kind m ≡ suc k → 0 < length m
     go [] z = absurd (omega arith)
     go (a ∷ m) z = omega arith
+
+  pub kind-still : (k : ℕ) → kind l ≡ suc k → kind (l ++ rest) ≡ suc k
+  kind-still k e = at 0 (some k e) ∙ e
 
   pub first-still-other : 0 < length l → (kind l ≡ 1 → ⊥) → firstFront (l ++ rest) ≡ Broken
   first-still-other n h = first-other (l ++ rest) (λ e. h (sym (at 0 n) ∙ e))

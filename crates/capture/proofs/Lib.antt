@@ -3,3 +3,4 @@ pub mod Front
 pub mod Sound
 pub mod Items
 pub mod Resume
+pub mod Turns

@@ -23,7 +23,9 @@ use Rattle.capture.specs.declared.Parsed.the-variants.{Item, End, Partia
 use Rattle.capture.specs.declared.Parsed.the-variants as parsed
 use Rattle.capture.proofs.Front as f
 use Rattle.capture.proofs.Items.{items-by}
-use Rattle.capture.proofs.Sound.{begun}
+use Rattle.capture.specs.Machine.{Fed, withSizes, advanced, kept, stepped, fed, Sound, Ready}
+use Rattle.capture.specs.declared.Reader.{Reader}
+use Rattle.capture.proofs.Sound.{next-bytes, step-ready, step-room}
 
 -- what is kept of a capture: its head, how many items it has, and the first 64 sizes
 pub data Known : Type 0 where
@@ -113,3 +115,85 @@ module _ (place : ℕ) (q rest : List ℕ) (h : Head) (n : ℕ) (room : List Flo
     go : (l : List ℕ) → 0 < length l → broken place ≡ joined h n (take n room) (ending place (l ++ rest))
     go [] z = absurd (omega arith)
     go (b ∷ l) z = refl
+
+  on-broken : coming stage.Broken place rest h n (take n room) ≡ coming stage.Broken place (q ++ rest) h n (take n room)
+  unfolding coming
+  on-broken = refl
+
+-- a record's bytes so far are none, or begin it
+abbrev pub Begun : Stage → List ℕ → Type 0
+Begun s p = (length p ≡ 0) ⊎ (front s p ≡ Partial)
+
+short-first : (p : List ℕ) → Begun stage.First p → length p < 12
+short-first p (inl e) = omega arith
+short-first p (inr e) = f.first-partial p e
+
+short-items : (p : List ℕ) → Begun stage.Items p → length p < 5
+short-items p (inl e) = omega arith
+short-items p (inr e) = f.later-partial p e
+
+-- only the first byte of a record can be the end
+end-at-once : (p : List ℕ) (b : ℕ) → Begun stage.Items p → laterFront (p ++ (b ∷ [])) ≡ End → length (p ++ (b ∷ [])) ≡ 1
+end-at-once p b (inl e) z = simp length-append (omega arith)
+end-at-once p b (inr e) z = go (f.later-cases p)
+  where
+  none : {o : Parsed} → laterFront p ≡ o → o ≡ Partial
+  none w = sym w ∙ e
+  go : f.Later p → length (p ++ (b ∷ [])) ≡ 1
+  go (f.Later.other k m) = let w : _≡_ {A = ℕ} 0 1 = cc (none (f.later-other p k m)) in absurd (omega arith)
+  go (f.Later.cut k m) = absurd (f.later-not-end (p ++ (b ∷ [])) (f.kind-still p (b ∷ []) 1 k) z)
+  go (f.Later.item k m) = let w : _≡_ {A = ℕ} 0 1 = cc (none (f.later-item p k m)) in absurd (omega arith)
+  go (f.Later.end k) = let w : _≡_ {A = ℕ} 0 1 = cc (none (f.later-end p k)) in absurd (omega arith)
+
+longer : (p : List ℕ) (b : ℕ) → length (p ++ (b ∷ [])) ≡ length p + 1
+longer p b = simp length-append
+
+goes-on : (s : Stage) (place : ℕ) (p : List ℕ) (b : ℕ) (rest : List ℕ) (h : Head) (n : ℕ) (room : List Float)
+    → length room ≡ 64 → Begun s p
+    → after (front s (p ++ (b ∷ []))) s place (p ++ (b ∷ [])) rest h n room ≡ coming s place ((p ++ (b ∷ [])) ++ rest) h n (take n room)
+goes-on stage.First place p b rest h n room full begun = on-first place (p ++ (b ∷ [])) rest h n room (omega (arith, longer p b)) (omega (arith, longer p b, short-first p begun))
+goes-on stage.Items place p b rest h n room full begun =
+    on-items place (p ++ (b ∷ [])) rest h n room (omega (arith, longer p b)) (omega (arith, longer p b, short-items p begun)) (end-at-once p b begun) full
+goes-on stage.Ended place p b rest h n room full begun = on-ended place (p ++ (b ∷ [])) rest h n room (omega (arith, longer p b))
+goes-on stage.Broken place p b rest h n room full begun = on-broken place (p ++ (b ∷ [])) rest h n room (omega (arith, longer p b))
+
+-- ---- the reader
+
+pub resume : Fed → List ℕ → Known
+resume fd rest = let r = fd .reader in coming (r .stage) (r .place) (take (r .have) (r .pending) ++ rest) (r .head) (r .items) (take (r .items) (fd .sizes))
+
+module _ (r : Reader) (room : List Float) (bytes rest : List ℕ) where
+  to-after : (o : Parsed) (q : List ℕ) → take (r .have + 1) bytes ≡ q
+      → resume (withSizes (advanced o r bytes) (kept o (r .items) room)) rest ≡ after o (r .stage) (r .place) q rest (r .head) (r .items) room
+  unfolding resume
+  to-after Partial q e = rw e
+  to-after Broken q e = refl
+  to-after (parsed.Head g) q e = refl
+  to-after (Item x) q e = refl
+  to-after End q e = refl
+
+begun-of : (r : Reader) → Sound r → Begun (r .stage) (take (r .have) (r .pending))
+begun-of r s = go (s .midway)
+  where
+  go : (r .have ≡ 0) ⊎ (front (r .stage) (take (r .have) (r .pending)) ≡ Partial) → Begun (r .stage) (take (r .have) (r .pending))
+  go (inl e) = inl (rw e)
+  go (inr e) = inr e
+
+pub step-resumes : (fd : Fed) (b : ℕ) (rest : List ℕ) → Sound (fd .reader) → length (fd .sizes) ≡ 64 → resume (stepped fd b) rest ≡ resume fd (b ∷ rest)
+unfolding resume
+step-resumes fd b rest sound full =
+    let r = fd .reader in
+    let p = take (r .have) (r .pending) in
+    let bytes = set (r .pending) (r .have) b in
+    let e = next-bytes b sound in
+    to-after r (fd .sizes) bytes rest (front (r .stage) (take (r .have + 1) bytes)) (p ++ (b ∷ [])) e
+    ∙ (ap (λ (l : List ℕ). after (front (r .stage) l) (r .stage) (r .place) (p ++ (b ∷ [])) rest (r .head) (r .items) (fd .sizes)) e
+    ∙ (goes-on (r .stage) (r .place) p b rest (r .head) (r .items) (fd .sizes) full (begun-of r sound)
+    ∙ ap (λ (l : List ℕ). coming (r .stage) (r .place) l (r .head) (r .items) (take (r .items) (fd .sizes))) (append-assoc p (b ∷ []) rest)))
+
+pub fed-resumes : (l rest : List ℕ) (fd : Fed) → Ready (fd .reader) (length l) → length (fd .sizes) ≡ 64 → resume (fed fd l) rest ≡ resume fd (l ++ rest)
+unfolding fed
+fed-resumes [] rest fd ready full = refl
+fed-resumes (b ∷ l) rest fd ready full =
+    fed-resumes l rest (stepped fd b) (step-ready fd b (length l) (rw add-one ready)) (step-room fd b ∙ full)
+    ∙ step-resumes fd b (l ++ rest) (ready .sound) full

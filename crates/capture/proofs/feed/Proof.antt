@@ -1,3 +1,10 @@
+-- `capture::feed` meets its contract: each turn takes the reader one byte on. Assumes nothing.
+use Prim.Native.Nat.{_-_}
+use native.Mathlib.Omega.{arith}
+use lib.ListN.{length}
+use denote.Ref.{now}
+use Rattle.capture.specs.Machine.{withSizes, fed}
+use Rattle.capture.proofs.Turns.{Turn, begin, can-step, turn, done}
 use Rattle.capture.proofs.feed.Statement.{statement}
 use Rattle.capture.proofs.feed.Tie as tie
 use Rattle.capture.proofs.feed.Reads as reads
@@ -5,49 +12,32 @@ use Rattle.capture.proofs.feed.Lts as lts
 use Rattle.capture.proofs.step.Reads as step-reads
 
 abbrev Inv-loop : tie.InvT-loop
-Inv-loop burst sizes₀ r₀ i₀ sizes r i = ?
+Inv-loop burst sizes₀ r₀ i₀ sizes r i = Turn burst (fed (withSizes r₀ sizes₀) burst) sizes r i
 
 abbrev μ-loop : tie.MeasureT-loop
-μ-loop burst sizes₀ r₀ i₀ sizes r i = ?
+μ-loop burst sizes₀ r₀ i₀ sizes r i = length burst - i
 
--- src/lib.rt:258:5
 loop-holds : tie.Need-loop-holds Inv-loop μ-loop
-loop-holds c = ?
+loop-holds c = begin _ _ _ (c .before .pre)
 
--- src/lib.rt:259:21
 shared-slice-read-step : tie.Need-shared-slice-read-step Inv-loop μ-loop
-shared-slice-read-step c = ?
+shared-slice-read-step c = omega arith
 
--- src/lib.rt:259:9
 step-requires : tie.Need-step-requires Inv-loop μ-loop
-step-requires c κs = ?
+step-requires c κs = can-step (c .before .before .before .loop .inv) (c .before .before .loop-test .taken)
 
--- src/lib.rt:260:9
 add-i : tie.Need-add-i Inv-loop μ-loop
-add-i c = ?
+add-i c = omega arith
 
--- src/lib.rt:258:5
 loop-less : tie.Need-loop-less Inv-loop μ-loop
-loop-less c = ?
+loop-less c = omega arith
 
--- src/lib.rt:258:5
 loop-again : tie.Need-loop-again Inv-loop μ-loop
-loop-again c = ?
+loop-again c = turn _ _ (c .before .before .before .before .loop .inv) (c .before .before .before .loop-test .taken) (c .step .ensures)
 
--- src/lib.rt:252:1
 returns : tie.Need-returns Inv-loop μ-loop
-returns c = ?
+returns c = done (c .before .loop .inv) (c .loop-test .left)
 
 pub feed-spec : {M : Type 1} → statement M
 feed-spec =
-    tie.close
-    (tie.spec
-    Inv-loop
-    μ-loop
-    loop-holds
-    shared-slice-read-step
-    step-requires
-    add-i
-    loop-less
-    loop-again
-    returns)
+    tie.close (tie.spec Inv-loop μ-loop loop-holds shared-slice-read-step step-requires add-i loop-less loop-again returns)
