@@ -1,16 +1,14 @@
 -- What the breaking calls take, check and answer (document 01, "Domain and refusal numbers" and "Breaking"). Assumes nothing.
-use mathlib.Core.Path.{_≡_}
 use mathlib.Core.Bool.{Bool}
 use mathlib.Core.List.{List, [], _∷_, _++_, map}
-use Prim.Native.Nat.{ℕ, suc, _+_, _-_, _≤_}
+use Prim.Native.Nat.{ℕ, _+_, _-_}
 use lib.Dec.{leb}
 use lib.ListN.{length, getD, drop, replicate}
 use lib.IntN.{ℤ, natAbs}
 use lib.Ieee.{Float, nan}
 use Rattle.grid.specs.Grid.{sixtyFourths}
-use Rattle.grid.specs.Grid as grid
 use Rattle.refusal.specs.Domain.{Number, float, Input, checked, shape, summed, then}
-use Rattle.refusal.specs.Marks.{sumUpTo, Lengths}
+use Rattle.refusal.specs.Marks.{sumUpTo}
 use Rattle.refusal.specs.declared.Kind.the-variants.{Length, Size}
 use Rattle.refusal.specs.declared.Verdict.{Verdict}
 use Rattle.refusal.specs.declared.Verdict.the-variants.{Passed}
@@ -19,9 +17,8 @@ use Rattle.refusal.specs.declared.Answer.{Answer}
 use Rattle.refusal.specs.declared.Answer.the-variants.{Done}
 use Rattle.refusal.specs.declared.Answer.the-variants as answer
 use Rattle.breaking.specs.declared.AvailableSpace.{AvailableSpace}
-use Rattle.breaking.specs.declared.AvailableSpace.the-variants.{Definite, MinContent, MaxContent}
 use Rattle.breaking.specs.Limit.{spaceNumbers}
-use Rattle.breaking.specs.Breaking.{limitOf, taken, greedy}
+use Rattle.breaking.specs.Breaking.{limitOf, greedy}
 
 -- the numbers that a breaking call takes: codes that came before the limit, the limit, the gap, and the items' outer main sizes
 abbrev pub breakingInput : List Number → AvailableSpace → Float → List Float → Input
@@ -39,22 +36,9 @@ outerSum gap sizes = sumUpTo (λ i. natAbs (sixtyFourths (getD sizes i nan)) + n
 unfoldable pub breakingVerdict : List Number → AvailableSpace → Float → List Float → Bool → Verdict
 breakingVerdict codes limit gap sizes room = then (shape (length sizes) room) (checked (breakingInput codes limit gap sizes) (summed (outerSum gap sizes)))
 
--- what breaking works on once the checks have passed
-pub record Breakable (limit : AvailableSpace) (gap : Float) (sizes : List Float) : Type 0 where
-  pub few : length sizes ≤ 1024
-  pub each : Lengths sizes
-  pub spacing : grid.Length gap
-  pub gap-not-below-0 : (z : ℕ) × (sixtyFourths gap ≡ lib.IntN.pos z)
-  pub limit-is : (x : Float) → limit ≡ Definite x → grid.Length x
-  pub small : outerSum gap sizes ≤ 16777216
-
 -- sizes in whole sixty-fourths
 abbrev pub units : List Float → List ℤ
 units sizes = map sixtyFourths sizes
-
--- where the line that starts at an item ends: it takes that item, and then as many as fit
-abbrev pub LineEnd : AvailableSpace → Float → List Float → ℕ → ℕ → Type 0
-LineEnd limit gap sizes start r = r ≡ start + suc (taken (limitOf limit) (sixtyFourths gap) (getD (units sizes) start (lib.IntN.pos 0) ∷ []) (drop (suc start) (units sizes)))
 
 -- "n cells for each answer list (by line, as counts, cells past the last line get 0)", and the cells past those unchanged
 abbrev pub written : ℕ → List ℕ → List ℕ → List ℕ

@@ -1,7 +1,6 @@
 -- Document 01, "Break limit (first leaf)". Floats are only compared and picked here, never rounded. Assumes nothing.
-use mathlib.Core.Bool.{Bool, true, false, cond}
+use mathlib.Core.Bool.{Bool, cond, _||_}
 use mathlib.Core.List.{List, [], _∷_, _++_}
-use Prim.Native.Nat.{ℕ}
 use lib.Ieee.{Float, lt}
 use Rattle.grid.specs.Grid.{cleaned}
 use Rattle.refusal.specs.Domain.{Number, float, Input, checked}
@@ -38,11 +37,15 @@ numberOr MaxContent maximum = maximum
 
 -- "if the container has no definite main size, lower it to the maximum"
 abbrev pub underMaximum : Query → Float → Float
-underMaximum q maximum = cond (q .main_is_definite) (numberOr (q .available) maximum) (lowered (numberOr (q .available) maximum) maximum)
+underMaximum q maximum = cond (q .«main_is_definite») (numberOr (q .available) maximum) (lowered (numberOr (q .available) maximum) maximum)
+
+-- a row, or a definite main size
+abbrev pub keepsSpace : Query → Bool
+keepsSpace q = q .«is_row» || q .«main_is_definite»
 
 -- "With no maximum, a column without a definite main size turns a definite space into max-content; all else passes unchanged."
 abbrev pub withoutMaximum : Query → AvailableSpace → AvailableSpace
-withoutMaximum q (Definite x) = cond (q .is_row) (Definite (cleaned x)) (cond (q .main_is_definite) (Definite (cleaned x)) MaxContent)
+withoutMaximum q (Definite x) = cond (keepsSpace q) (Definite (cleaned x)) MaxContent
 withoutMaximum q MinContent = MinContent
 withoutMaximum q MaxContent = MaxContent
 
@@ -52,7 +55,7 @@ byMaximum q (Given maximum) = Definite (cleaned (raisedTo (q .minimum) (underMax
 
 -- "If the known main size isn't definite: max-content. Else .."
 abbrev pub breakLimit : Query → AvailableSpace
-breakLimit q = cond (q .known_is_definite) (byMaximum q (q .maximum)) MaxContent
+breakLimit q = cond (q .«known_is_definite») (byMaximum q (q .maximum)) MaxContent
 
 -- ---- the numbers that the call takes, all of them the container's, whatever the answer turns on
 

@@ -1,15 +1,16 @@
 // Breaking items into lines: the break limit, what fits, and greedy breaking (document 01, "Break limit" and "Breaking").
 ghost use mathlib.Core.Path.{_≡_};
-ghost use mathlib.Core.List.{List, []};
+ghost use mathlib.Core.List.{List};
 ghost use Prim.Native.Nat.{_≤_, _<_};
 ghost use lib.ListN.{length};
 ghost use lib.IntN.{ℤ};
-ghost use Rattle.grid.specs.Grid.{At, cleaned, sixtyFourths};
+ghost use Rattle.grid.specs.Grid.{At, sixtyFourths};
 ghost use Rattle.refusal.specs.Domain.{Number};
 ghost use Rattle.refusal.specs.Marks.{leastOf};
-ghost use Rattle.breaking.specs.Limit.{lowered, raised, raisedTo, numberOr, underMaximum, withoutMaximum, byMaximum, breakLimit, spaceNumbers, boundNumbers, limitCall};
+ghost use Rattle.breaking.specs.Limit.{lowered, raised, raisedTo, numberOr, underMaximum, keepsSpace, withoutMaximum, byMaximum, breakLimit, spaceNumbers, boundNumbers, limitCall};
 ghost use Rattle.breaking.specs.Breaking.{limitOf, fits, greedy};
-ghost use Rattle.breaking.specs.Calls.{breakingVerdict, Breakable, LineEnd, units, written, broken, greedyCall};
+ghost use Rattle.breaking.specs.Calls.{breakingVerdict, units, broken, greedyCall};
+ghost use Rattle.breaking.specs.Steps.{LengthLimit, Breakable, LineEnd, Counted, cleared};
 use refusal::Answer;
 use refusal::Kind;
 use refusal::Mark;
@@ -78,7 +79,8 @@ fn number_or(available: AvailableSpace, maximum: f32) -> f32
 fn under_maximum(q: Query, maximum: f32) -> f32
     ensures { λ r. ⌜ r ≡ underMaximum q maximum ⌝ }
 {
-    let x = number_or(q.available, maximum);
+    let available = q.available;
+    let x = number_or(available, maximum);
     if q.main_is_definite {
         x
     } else {
@@ -86,37 +88,51 @@ fn under_maximum(q: Query, maximum: f32) -> f32
     }
 }
 
+// A column without a definite main size does not keep a definite space.
+fn keeps_space(q: Query) -> bool
+    ensures { λ r. ⌜ r ≡ keepsSpace q ⌝ }
+{
+    if q.is_row { true } else { q.main_is_definite }
+}
+
 fn without_maximum(q: Query, available: AvailableSpace) -> AvailableSpace
     ensures { λ r. ⌜ r ≡ withoutMaximum q available ⌝ }
 {
     match available {
         AvailableSpace::Definite(x) => {
-            if q.is_row {
-                return AvailableSpace::Definite(grid::clean(x));
+            if keeps_space(q) {
+                AvailableSpace::Definite(grid::clean(x))
+            } else {
+                AvailableSpace::MaxContent
             }
-            if q.main_is_definite {
-                return AvailableSpace::Definite(grid::clean(x));
-            }
-            AvailableSpace::MaxContent
         }
         AvailableSpace::MinContent => AvailableSpace::MinContent,
         AvailableSpace::MaxContent => AvailableSpace::MaxContent,
     }
 }
 
+fn by_maximum(q: Query, maximum: Bound) -> AvailableSpace
+    ensures { λ r. ⌜ r ≡ byMaximum q maximum ⌝ }
+{
+    let available = q.available;
+    let minimum = q.minimum;
+    match maximum {
+        Bound::Absent => without_maximum(q, available),
+        Bound::Given(high) => {
+            let number = raise_to(minimum, under_maximum(q, high));
+            AvailableSpace::Definite(grid::clean(number))
+        }
+    }
+}
+
 fn limit_of(q: Query) -> AvailableSpace
     ensures { λ r. ⌜ r ≡ breakLimit q ⌝ }
 {
-    if !q.known_is_definite {
-        return AvailableSpace::MaxContent;
-    }
     let maximum = q.maximum;
-    match maximum {
-        Bound::Absent => without_maximum(q, q.available),
-        Bound::Given(high) => AvailableSpace::Definite(grid::clean(raise_to(
-            q.minimum,
-            under_maximum(q, high),
-        ))),
+    if q.known_is_definite {
+        by_maximum(q, maximum)
+    } else {
+        AvailableSpace::MaxContent
     }
 }
 
@@ -143,17 +159,21 @@ fn mark_bound(bound: Bound) -> Mark
 pub fn break_limit(q: Query) -> BreakLimit
     ensures { λ r. ⌜ r ≡ limitCall q ⌝ }
 {
-    let bounds = refusal::least(mark_bound(q.minimum), mark_bound(q.maximum));
-    let m = refusal::least(mark_space(q.available), bounds);
+    let available = q.available;
+    let minimum = q.minimum;
+    let maximum = q.maximum;
+    let bounds = refusal::least(mark_bound(minimum), mark_bound(maximum));
+    let m = refusal::least(mark_space(available), bounds);
     match refusal::judge(m) {
         Verdict::Refused(why) => BreakLimit::Refused(why),
         Verdict::Passed => BreakLimit::Limit(limit_of(q)),
     }
 }
 
-// Whether a line of several items, of this size, fits. Both breakers take it from here.
+// Whether a line of several items, of this size, fits. Both breakers take it from here, once the limit has passed the checks: no entry point.
 pub fn line_fits(limit: AvailableSpace, size: f32) -> bool
-    ensures { λ r. ⌜ ((y z : ℤ) → ((x : lib.Ieee.Float) → limit ≡ AvailableSpace.Definite x → At 64 x y) → At 64 size z → r ≡ fits (limitOf limit) z) ⌝ }
+    requires { ⌜ LengthLimit limit ⌝ }
+    ensures { λ r. ⌜ ((z : ℤ) → At 64 size z → r ≡ fits (limitOf limit) z) ⌝ }
 {
     match limit {
         AvailableSpace::Definite(x) => size <= x,
@@ -204,10 +224,10 @@ fn line_end(sizes: &[f32], gap: f32, limit: AvailableSpace, start: usize) -> usi
     i
 }
 
-// The counts by line in the first cells, and 0 in the others of the first n.
+// The counts by line, in the first cells.
 fn greedy_counts(sizes: &[f32], gap: f32, limit: AvailableSpace, counts: &mut [u32]) -> usize
     requires { ⌜ Breakable limit gap (now sizes) × (length (now sizes) ≤ length (now counts)) ⌝ }
-    ensures { λ r. ⌜ (r ≡ length (greedy (limitOf limit) (sixtyFourths gap) (units (now (sizes .entry))))) × (now (counts .exit) ≡ written (length (now (sizes .entry))) (greedy (limitOf limit) (sixtyFourths gap) (units (now (sizes .entry)))) (now (counts .entry))) ⌝ }
+    ensures { λ r. ⌜ Counted (greedy (limitOf limit) (sixtyFourths gap) (units (now (sizes .entry)))) (now (counts .entry)) r (now (counts .exit)) ⌝ }
 {
     let mut start = 0;
     let mut n = 0;
@@ -217,12 +237,19 @@ fn greedy_counts(sizes: &[f32], gap: f32, limit: AvailableSpace, counts: &mut [u
         n += 1;
         start = end;
     }
-    let mut i = n;
-    while i < sizes.len() {
+    n
+}
+
+// Cells past the last line get 0. Both breakers take it from here: no entry point.
+pub fn clear_counts(counts: &mut [u32], from: usize, to: usize)
+    requires { ⌜ (from ≤ to) × (to ≤ length (now counts)) ⌝ }
+    ensures { λ r. ⌜ now (counts .exit) ≡ cleared from to (now (counts .entry)) ⌝ }
+{
+    let mut i = from;
+    while i < to {
         counts[i] = 0;
         i += 1;
     }
-    n
 }
 
 // Greedy breaking of any bits.
@@ -240,6 +267,7 @@ pub fn greedy(limit: AvailableSpace, gap: f32, sizes: &[f32], counts: &mut [u32]
         Verdict::Refused(why) => Answer::Refused(why),
         Verdict::Passed => {
             let n = greedy_counts(sizes, gap, limit, counts);
+            clear_counts(counts, n, sizes.len());
             Answer::Done {
                 lines: n as u32,
                 rounds: 0,

@@ -1,0 +1,111 @@
+-- `greedy` meets its contract: where the checks pass, the counts and then zeros are written (Counts.antt); where they refuse, nothing is. Assumes nothing.
+use mathlib.Core.Path.{_≡_, sym, ap, ap₂, _∙_, subst}
+use mathlib.Core.List.{List, []}
+use Prim.Native.Nat.{ℕ, _≤_}
+use lib.Dec.{leb}
+use lib.ListN.{length, length-map}
+use lib.Ieee.{Float}
+use denote.Ref.{now}
+use native.Mathlib.Omega.{arith}
+use borrow.Author.Tests.{leb-true}
+use Rattle.grid.specs.Grid.{sixtyFourths}
+use Rattle.refusal.specs.declared.Verdict.{Verdict}
+use Rattle.refusal.specs.declared.Answer.the-variants.{Done}
+use Rattle.refusal.specs.Marks.{leastOf}
+use Rattle.breaking.specs.declared.AvailableSpace.{AvailableSpace}
+use Rattle.breaking.specs.Breaking.{limitOf}
+use Rattle.breaking.specs.Breaking as breaking
+use Rattle.breaking.specs.Calls.{breakingVerdict, units, broken, brokenInto}
+use Rattle.breaking.specs.Steps.{Breakable}
+use Rattle.breaking.proofs.Accepted.{breakable}
+use Rattle.breaking.proofs.Lines.{greedy-few}
+use Rattle.breaking.proofs.Counts.{counted-long, all-written}
+use borrow.Author.Needs.{needs}
+use Rattle.breaking.proofs.greedy.Statement.{statement}
+use Rattle.breaking.proofs.greedy.Tie as tie
+
+no-mark-requires : tie.Need-no-mark-requires
+no-mark-requires c κs = search needs
+
+check-breaking-requires : tie.Need-check-breaking-requires
+check-breaking-requires c κs = search needs
+
+-- the counts of the lines
+abbrev lines : AvailableSpace → Float → List Float → List ℕ
+lines limit gap sizes = breaking.greedy (limitOf limit) (sixtyFourths gap) (units sizes)
+
+-- the verdict of the checks
+verdict : (c : tie.After-check-breaking) → let a = c .before .before .before .before .args in
+    c .check-breaking .result ≡ breakingVerdict [] (a .limit) (a .gap) (now (a .sizes)) (leb (length (now (a .sizes))) (length (now (a .counts))))
+unfolding leastOf
+verdict c = c .check-breaking .ensures [] (c .before .no-mark .ensures)
+
+-- and what it says where they pass
+given : (c : tie.After-enum-told) → let a = c .before .before .before .before .before .before .args in
+    Breakable (a .limit) (a .gap) (now (a .sizes)) × (length (now (a .sizes)) ≤ length (now (a .counts)))
+given c =
+    let a = c .before .before .before .before .before .before .args in
+    let p = breakable [] (a .limit) (a .gap) (now (a .sizes)) _ (sym (verdict (c .before .before)) ∙ c .enum-told .given .1) in
+    (p .0, leb-true (length (now (a .sizes))) (length (now (a .counts))) (p .1))
+
+enum-known-v : tie.Need-enum-known-v
+enum-known-v c = search needs
+
+enum-told : tie.Need-enum-told
+enum-told c = search needs
+
+greedy-counts-requires : tie.Need-greedy-counts-requires
+greedy-counts-requires c κs = given (c .before)
+
+-- there are no more lines than items
+few : (c : tie.After-greedy-counts) → c .greedy-counts .result ≤ length (now (c .before .before .before .before .before .before .before .before .args .sizes))
+few c =
+    let a = c .before .before .before .before .before .before .before .before .args in
+    let f = greedy-few (limitOf (a .limit)) (sixtyFourths (a .gap)) (units (now (a .sizes))) in
+    omega (arith, c .greedy-counts .ensures .number, length-map (now (a .sizes)) sixtyFourths)
+
+clear-counts-requires : tie.Need-clear-counts-requires
+clear-counts-requires c κs =
+    let g = c .before .before .before in
+    let f = few g in
+    let r = given (g .before .before) .1 in
+    (f, subst (λ (n : ℕ). length (now (g .before .before .before .before .before .before .before .before .args .sizes)) ≤ n) (sym (counted-long (g .greedy-counts .ensures) (omega arith))) r)
+
+cast-t19 : tie.Need-cast-t19
+cast-t19 c =
+    let g = c .before .before .before .before .before .before in
+    let b = given (g .before .before) .0 .few in
+    omega (arith, few g)
+
+returns : tie.Need-returns
+returns c =
+    let a = c .before .before .before .before .before .before .before .args in
+    let n = now (a .counts) in
+    sym (ap (λ (v : Verdict). brokenInto v (lines (a .limit) (a .gap) (now (a .sizes))) (length (now (a .sizes))) n) (sym (verdict (c .before .before .before)) ∙ c .before .v .given .1))
+
+same-length : tie.Need-same-length
+same-length c = search needs
+
+returns-2 : tie.Need-returns-2
+returns-2 c =
+    let g = c .before .before .before .before .before .before in
+    let a = g .before .before .before .before .before .before .before .before .args in
+    let e = g .greedy-counts .ensures in
+    let n = now (a .counts) in
+    ap₂ (λ (k : ℕ) (l : List ℕ). broken (Done k 0) l) (e .number) (c .before .before .clear-counts .ensures ∙ all-written (lines (a .limit) (a .gap) (now (a .sizes))) n _ _ _ e (few g))
+    ∙ sym (ap (λ (v : Verdict). brokenInto v (lines (a .limit) (a .gap) (now (a .sizes))) (length (now (a .sizes))) n) (sym (verdict (g .before .before .before .before)) ∙ g .before .before .enum-told .given .1))
+
+pub greedy-spec : {M : Type 1} → statement M
+greedy-spec =
+    tie.close
+    (tie.spec
+    no-mark-requires
+    check-breaking-requires
+    enum-known-v
+    enum-told
+    greedy-counts-requires
+    clear-counts-requires
+    cast-t19
+    returns
+    same-length
+    returns-2)
