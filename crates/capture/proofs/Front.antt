@@ -8,7 +8,7 @@ use native.Mathlib.Decide.{ℕ-discrete, decLe}
 use borrow.Author.Tests.{eq-eqb, ne-eqb, le-leb, lt-leb}
 use native.Mathlib.Omega.{arith}
 use Rattle.capture.specs.Format.{limitOf, headOf, float, kind, firstFront, laterFront, front}
-use Rattle.capture.specs.declared.AvailableSpace.the-variants.{MaxContent}
+use Rattle.breaking.specs.declared.AvailableSpace.the-variants.{MaxContent}
 use Rattle.capture.specs.declared.Parsed.{Parsed}
 use Rattle.capture.specs.declared.Parsed.the-variants.{Head, Item, End, Partial, Broken}
 

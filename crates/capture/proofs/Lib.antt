@@ -4,3 +4,5 @@ pub mod Sound
 pub mod Items
 pub mod Resume
 pub mod Turns
+pub mod Whole
+pub mod Format

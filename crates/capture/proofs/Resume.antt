@@ -159,7 +159,8 @@ goes-on stage.Broken place p b rest h n room full begun = on-broken place (p ++ 
 
 -- ---- the reader
 
-pub resume : Fed → List ℕ → Known
+unfoldable pub resume : Fed → List ℕ → Known
+unfolding coming
 resume fd rest = let r = fd .reader in coming (r .stage) (r .place) (take (r .have) (r .pending) ++ rest) (r .head) (r .items) (take (r .items) (fd .sizes))
 
 module _ (r : Reader) (room : List Float) (bytes rest : List ℕ) where
@@ -172,7 +173,7 @@ module _ (r : Reader) (room : List Float) (bytes rest : List ℕ) where
   to-after (Item x) q e = refl
   to-after End q e = refl
 
-begun-of : (r : Reader) → Sound r → Begun (r .stage) (take (r .have) (r .pending))
+pub begun-of : (r : Reader) → Sound r → Begun (r .stage) (take (r .have) (r .pending))
 begun-of r s = go (s .midway)
   where
   go : (r .have ≡ 0) ⊎ (front (r .stage) (take (r .have) (r .pending)) ≡ Partial) → Begun (r .stage) (take (r .have) (r .pending))

@@ -6,10 +6,15 @@ use mathlib.Core.Bool.{cond}
 use mathlib.Core.List.{List, [], _∷_}
 use Prim.Native.Nat.{ℕ, _+_, _≤_, _^_}
 use lib.Dec.{ltb}
-use lib.ListN.{length, take, set}
-use lib.Ieee.{Float}
+use lib.ListN.{length, take, set, replicate}
+use lib.Ieee.{Float, binary32, ofBits}
+use Rattle.breaking.specs.declared.AvailableSpace.the-variants.{MaxContent}
 use Rattle.capture.specs.Format.{front}
 use Rattle.capture.specs.declared.Reader.{Reader}
+use Rattle.capture.specs.declared.Captured.{Captured}
+use Rattle.capture.specs.declared.Captured.the-variants.{Whole}
+use Rattle.capture.specs.declared.Captured.the-variants as captured
+use Rattle.capture.specs.declared.Stage.{Stage}
 use Rattle.capture.specs.declared.Stage.the-variants.{Items, Ended}
 use Rattle.capture.specs.declared.Stage.the-variants as stage
 use Rattle.capture.specs.declared.Parsed.{Parsed}
@@ -50,6 +55,27 @@ stepped f b =
 unfoldable pub fed : Fed → List ℕ → Fed
 fed f [] = f
 fed f (b ∷ bytes) = fed (stepped f b) bytes
+
+-- before the first byte
+abbrev pub started : Reader
+started = record {
+  stage = stage.First;
+  place = 0;
+  have = 0;
+  pending = replicate 12 0;
+  head = record { limit = MaxContent; gap = ofBits binary32 0; minimum = 0 };
+  items = 0;
+}
+
+-- after the last
+abbrev pub byStage : Stage → Reader → Captured
+byStage Ended r = Whole (r .head) (r .items)
+byStage stage.First r = captured.Broken (r .place)
+byStage Items r = captured.Broken (r .place)
+byStage stage.Broken r = captured.Broken (r .place)
+
+abbrev pub finished : Reader → Captured
+finished r = byStage (r .stage) r
 
 -- what holds of every reader that comes from `start` and `feed`: between records, or within one that its bytes so far begin
 pub record Sound (r : Reader) : Type 0 where

@@ -4,13 +4,8 @@ ghost use Prim.Native.Nat.{_+_, _≤_, _<_, _^_};
 ghost use lib.ListN.{length};
 ghost use lib.Ieee.{binary32, ofBits};
 ghost use Rattle.capture.specs.Format.{half, word, float, limitOf, headOf, firstFront, laterFront, front};
-ghost use Rattle.capture.specs.Machine.{Fed, withSizes, advanced, kept, stepped, fed, Sound, Ready};
-
-pub enum AvailableSpace {
-    Definite(f32),
-    MinContent,
-    MaxContent,
-}
+ghost use Rattle.capture.specs.Machine.{Fed, withSizes, advanced, kept, stepped, fed, started, finished, Ready};
+use breaking::AvailableSpace;
 
 // A record of kind 1: what the items are broken by.
 pub struct Head {
@@ -160,6 +155,7 @@ pub struct Reader {
 }
 
 pub fn start() -> Reader
+    ensures { λ r. ⌜ r ≡ started ⌝ }
 {
     Reader {
         stage: Stage::First,
@@ -266,4 +262,27 @@ pub fn feed(from: Reader, burst: &[u8], sizes: &mut [f32; 64]) -> Reader
         i += 1;
     }
     r
+}
+
+// What a capture says, once its last byte was fed.
+pub enum Captured {
+    Whole { head: Head, items: usize },
+    // The offset where the faulty record starts. A record that the capture's end cuts is faulty, and so is a missing one.
+    Broken(u64),
+}
+
+pub fn finish(r: Reader) -> Captured
+    ensures { λ s. ⌜ s ≡ finished r ⌝ }
+{
+    let stage = r.stage;
+    let head = r.head;
+    match stage {
+        Stage::Ended => Captured::Whole {
+            head,
+            items: r.items,
+        },
+        Stage::First => Captured::Broken(r.place),
+        Stage::Items => Captured::Broken(r.place),
+        Stage::Broken => Captured::Broken(r.place),
+    }
 }
