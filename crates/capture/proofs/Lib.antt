@@ -6,3 +6,4 @@ pub mod Resume
 pub mod Turns
 pub mod Whole
 pub mod Format
+pub mod Puts

@@ -1,4 +1,6 @@
 // Captures (document 01, "Records for the program"): from the bytes to the numbers, a burst at a time, and from the numbers to the answer.
+mod text;
+
 ghost use mathlib.Core.Path.{_≡_};
 ghost use Prim.Native.Nat.{_+_, _≤_, _<_, _^_};
 ghost use lib.ListN.{length};
@@ -6,6 +8,7 @@ ghost use lib.Ieee.{binary32, ofBits};
 ghost use Rattle.capture.specs.Format.{half, word, float, limitOf, headOf, firstFront, laterFront, front};
 ghost use Rattle.capture.specs.Machine.{Fed, withSizes, advanced, kept, stepped, fed, started, finished, Ready};
 use breaking::AvailableSpace;
+use refusal::Refusal;
 
 // A record of kind 1: what the items are broken by.
 pub struct Head {
@@ -285,4 +288,12 @@ pub fn finish(r: Reader) -> Captured
         Stage::Items => Captured::Broken(r.place),
         Stage::Broken => Captured::Broken(r.place),
     }
+}
+
+// The answer to a capture. The counts of the lines are in the list that was lent.
+pub enum Reply {
+    Lines(u32),
+    Refused(Refusal),
+    // Answer 7, and its byte offset.
+    Broken(u64),
 }
