@@ -2,7 +2,7 @@
 use mathlib.Core.Path.{_≡_, refl, sym, _∙_, ap, subst}
 use mathlib.Core.Bool.{Bool, true, false, cond}
 use mathlib.Core.List.{List, [], _∷_, _++_, append-assoc, append-nil}
-use Prim.Native.Nat.{ℕ, zero, suc, _+_, _-_, _/_, _%_, _<_, _≤_}
+use Prim.Native.Nat.{ℕ, zero, suc, _+_, _-_, _*_, _/_, _%_, _<_, _≤_}
 use native.Mathlib.Omega.{arith}
 use native.Mathlib.Numerals.{add-one}
 use native.Mathlib.Nat.{add-zero, add-assoc}
@@ -10,7 +10,10 @@ use lib.Dec.{ltb}
 use lib.ListN.{length, getD, take, drop, set, length-append, length-set}
 use lib.Seq.{take-suc-set, take-suc, take-all}
 use borrow.Author.Tests.{lt-ltb, le-ltb}
-use Rattle.capture.specs.Text.{Put, decimalTo}
+use Rattle.refusal.specs.Domain.{whereOf}
+use Rattle.refusal.specs.declared.Place.{Place}
+use Rattle.refusal.specs.declared.Place.the-variants.{Container, At}
+use Rattle.capture.specs.Text.{Put, decimalTo, decimal, spaced, placeText, titleText, counts-word}
 
 pub put-none : {before : List ℕ} {at : ℕ} → Put [] before before at at
 put-none {before} {at} = record { past = sym (add-zero at); front = sym (append-nil (take at before)); as-long = refl }
@@ -82,3 +85,45 @@ number-one k n {before} {after} {at} {r} h z p = subst (λ (l : List ℕ). Put l
 pub number-more : (k n : ℕ) {before mid after : List ℕ} {at m r : ℕ} → 0 < k → 10 ≤ n
     → Put (decimalTo (k - 1) (n / 10)) before mid at m → Put ((48 + n % 10) ∷ []) mid after m r → Put (decimalTo k n) before after at r
 number-more k n {before} {after = after} {at} {r = r} h z p q = subst (λ (l : List ℕ). Put l before after at r) (sym (decimal-more k n h z)) (put-more p q)
+
+-- ---- the counts
+
+spaced-snoc : (l : List ℕ) (n : ℕ) → spaced (l ++ (n ∷ [])) ≡ spaced l ++ (32 ∷ decimal n)
+spaced-snoc [] n = append-nil (32 ∷ decimal n)
+spaced-snoc (m ∷ l) n = ap (λ (t : List ℕ). (32 ∷ decimal m) ++ t) (spaced-snoc l n) ∙ sym (append-assoc (32 ∷ decimal m) (spaced l) (32 ∷ decimal n))
+
+-- i of the counts are put, in at most 21 bytes each
+pub record Counted (counts before now : List ℕ) (at next i : ℕ) : Type 0 where
+  pub within : i ≤ length counts
+  pub text : Put (spaced (take i counts)) before now at next
+  pub short : next ≤ at + 21 * i
+
+pub counted-none : (counts before : List ℕ) (at : ℕ) → Counted counts before before at at 0
+counted-none counts before at = record { within = omega arith; text = put-none; short = omega arith }
+
+pub counted-next : {counts before now after : List ℕ} {at next r i : ℕ} → Counted counts before now at next i → i < length counts
+    → Put (32 ∷ decimal (getD counts i 0)) now after next r → Counted counts before after at r (i + 1)
+counted-next {counts} {before} {now} {after} {at} {next} {r} {i} c h p = record {
+  within = omega arith;
+  text = subst (λ (l : List ℕ). Put l before after at r) (sym (ap spaced e ∙ spaced-snoc (take i counts) (getD counts i 0))) (put-more (c .text) p);
+  short = omega (arith, c .short, p .past, places 20 (getD counts i 0));
+}
+  where
+  e : take (i + 1) counts ≡ take i counts ++ (getD counts i 0 ∷ [])
+  e = rw add-one (take-suc counts i 0 h)
+
+pub counted-all : {counts before now : List ℕ} {at next i : ℕ} → Counted counts before now at next i → length counts ≤ i → Put (spaced counts) before now at next
+counted-all {counts} {before} {now} {at} {next} {i} c h = subst (λ (l : List ℕ). Put (spaced l) before now at next) (take-all i counts h) (c .text)
+
+pub place-short : (p : Place) → length (placeText (whereOf p)) ≤ 20
+place-short Container = omega arith
+place-short (At i) = places 20 i
+
+pub spaced-short : (n : ℕ) (l : List ℕ) → length (spaced (take n l)) ≤ 21 * length l
+spaced-short zero l = omega arith
+spaced-short (suc n) [] = omega arith
+spaced-short (suc n) (m ∷ l) =
+    omega (arith, length-append (32 ∷ decimal m) (spaced (take n l)), places 20 m, spaced-short n l)
+
+pub title-short : (n : ℕ) → length (titleText n) ≤ 42
+title-short n = omega (arith, length-append (decimal n) (10 ∷ counts-word), places 20 n)

@@ -5,10 +5,7 @@ use mathlib.Core.List.{List, [], _∷_, _++_}
 use Prim.Native.Nat.{ℕ, zero, suc, _+_, _/_, _%_}
 use lib.Dec.{ltb}
 use lib.ListN.{length, take}
-use Rattle.refusal.specs.declared.Place.{Place}
-use Rattle.refusal.specs.declared.Place.the-variants.{Container, At}
-use Rattle.refusal.specs.declared.Refusal.{Refusal}
-use Rattle.refusal.specs.declared.Refusal.the-variants.{TooManyItems, TooLittleRoom, NotFinite, OffGrid, OutOfRange, SumTooLarge}
+use Rattle.refusal.specs.Domain.{Where, nowhere, at-container, at-item, Paper, refusedAs, refusalOf}
 use Rattle.capture.specs.declared.Reply.{Reply}
 use Rattle.capture.specs.declared.Reply.the-variants.{Lines, Refused, Broken}
 
@@ -42,12 +39,34 @@ abbrev pub counts-word : List ℕ
 counts-word = 99 ∷ 111 ∷ 117 ∷ 110 ∷ 116 ∷ 115 ∷ []
 
 -- "A refusal prints only `answer 4 place 1`; the container prints as `container`."
-abbrev pub placeText : Place → List ℕ
-placeText Container = container-word
-placeText (At i) = decimal i
+abbrev pub placeText : Where → List ℕ
+placeText nowhere = []
+placeText at-container = container-word
+placeText (at-item i) = decimal i
 
-abbrev pub refusalText : ℕ → List ℕ → List ℕ
-refusalText number place = answer-word ++ ((48 + number) ∷ (place-word ++ (place ++ (10 ∷ []))))
+abbrev pub headText : ℕ → List ℕ
+headText number = answer-word ++ ((48 + number) ∷ place-word)
+
+abbrev pub refusalText : Paper → List ℕ
+refusalText p = headText (p .number) ++ (placeText (p .place) ++ (10 ∷ []))
+
+-- the three lines of an accepted capture: "With no items the last line is `counts` alone."
+abbrev pub titleText : ℕ → List ℕ
+titleText lines = (answer-word ++ (48 ∷ 10 ∷ lines-word)) ++ (decimal lines ++ (10 ∷ counts-word))
+
+abbrev pub linesText : ℕ → List ℕ → List ℕ
+linesText lines counts = titleText lines ++ (spaced (take lines counts) ++ (10 ∷ []))
+
+-- the paper's values: the place of answer 7 is a byte offset
+abbrev pub replyPaper : Reply → Paper
+replyPaper (Lines k) = record { number = 0; place = nowhere; lines = k; rounds = 0 }
+replyPaper (Refused why) = refusalOf why
+replyPaper (Broken offset) = refusedAs 7 (at-item offset)
+
+abbrev pub textOf : Reply → List ℕ → List ℕ
+textOf (Lines k) counts = linesText k counts
+textOf (Refused why) counts = refusalText (replyPaper (Refused why))
+textOf (Broken offset) counts = refusalText (replyPaper (Broken offset))
 
 -- `text` is written at `at` of a list, which is as it was before that, and `next` is past it
 pub record Put (text before after : List ℕ) (at next : ℕ) : Type 0 where

@@ -1,6 +1,8 @@
 // Captures (document 01, "Records for the program"): from the bytes to the numbers, a burst at a time, and from the numbers to the answer.
 mod text;
 
+pub use text::spell;
+
 ghost use mathlib.Core.Path.{_≡_};
 ghost use Prim.Native.Nat.{_+_, _≤_, _<_, _^_};
 ghost use lib.ListN.{length};
