@@ -1,10 +1,10 @@
--- `capture::float_of` meets its contract. Assumes nothing.
+-- `capture::record::float_of` meets its contract. Assumes nothing.
 use Rattle.capture.proofs.Nan.{finite-bits, nan-bits}
 use borrow.Author.Needs.{needs}
-use Rattle.capture.proofs.float_of.Statement.{statement}
-use Rattle.capture.proofs.float_of.Tie as tie
-use Rattle.capture.proofs.float_of.Reads as reads
-use Rattle.capture.proofs.float_of.Lts as lts
+use Rattle.capture.proofs.record.float_of.Statement.{statement}
+use Rattle.capture.proofs.record.float_of.Tie as tie
+use Rattle.capture.proofs.record.float_of.Reads as reads
+use Rattle.capture.proofs.record.float_of.Lts as lts
 
 -- src/lib.rt:62:9
 float-from-bits-result : tie.Need-float-from-bits-result

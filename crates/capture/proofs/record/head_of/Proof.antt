@@ -1,12 +1,12 @@
--- `capture::head_of` meets its contract. Assumes nothing.
+-- `capture::record::head_of` meets its contract. Assumes nothing.
 use borrow.Author.Needs.{needs}
-use Rattle.capture.proofs.head_of.Statement.{statement}
-use Rattle.capture.proofs.head_of.Tie as tie
-use Rattle.capture.proofs.head_of.Reads as reads
-use Rattle.capture.proofs.head_of.Lts as lts
-use Rattle.capture.proofs.float_at.Reads as float-at-reads
-use Rattle.capture.proofs.half_at.Reads as half-at-reads
-use Rattle.capture.proofs.limit_of.Reads as limit-of-reads
+use Rattle.capture.proofs.record.head_of.Statement.{statement}
+use Rattle.capture.proofs.record.head_of.Tie as tie
+use Rattle.capture.proofs.record.head_of.Reads as reads
+use Rattle.capture.proofs.record.head_of.Lts as lts
+use Rattle.capture.proofs.record.float_at.Reads as float-at-reads
+use Rattle.capture.proofs.record.half_at.Reads as half-at-reads
+use Rattle.capture.proofs.record.limit_of.Reads as limit-of-reads
 
 -- src/lib.rt:90:26
 shared-slice-read-limit-of : tie.Need-shared-slice-read-limit-of

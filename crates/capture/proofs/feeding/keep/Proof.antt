@@ -1,10 +1,10 @@
--- `capture::keep` meets its contract. Assumes nothing.
+-- `capture::feeding::keep` meets its contract. Assumes nothing.
 use borrow.Author.Tests.{lt-ltb, le-ltb}
 use borrow.Author.Needs.{needs}
-use Rattle.capture.proofs.keep.Statement.{statement}
-use Rattle.capture.proofs.keep.Tie as tie
-use Rattle.capture.proofs.keep.Reads as reads
-use Rattle.capture.proofs.keep.Lts as lts
+use Rattle.capture.proofs.feeding.keep.Statement.{statement}
+use Rattle.capture.proofs.feeding.keep.Tie as tie
+use Rattle.capture.proofs.feeding.keep.Reads as reads
+use Rattle.capture.proofs.feeding.keep.Lts as lts
 
 -- src/lib.rt:232:22
 enum-known-found : tie.Need-enum-known-found

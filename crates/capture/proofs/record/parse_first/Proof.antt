@@ -1,13 +1,13 @@
--- `capture::parse_first` meets its contract: at each return the tests on the way say which case of `firstFront` it is. Assumes nothing.
+-- `capture::record::parse_first` meets its contract: at each return the tests on the way say which case of `firstFront` it is. Assumes nothing.
 use mathlib.Core.Path.{_∙_, ap, sym}
 use Rattle.capture.specs.declared.Parsed.the-variants.{Head}
 use Rattle.capture.proofs.Front.{first-other, first-short, first-bad, first-cut, first-head}
 use borrow.Author.Needs.{needs}
-use Rattle.capture.proofs.parse_first.Statement.{statement}
-use Rattle.capture.proofs.parse_first.Tie as tie
-use Rattle.capture.proofs.parse_first.Reads as reads
-use Rattle.capture.proofs.parse_first.Lts as lts
-use Rattle.capture.proofs.head_of.Reads as head-of-reads
+use Rattle.capture.proofs.record.parse_first.Statement.{statement}
+use Rattle.capture.proofs.record.parse_first.Tie as tie
+use Rattle.capture.proofs.record.parse_first.Reads as reads
+use Rattle.capture.proofs.record.parse_first.Lts as lts
+use Rattle.capture.proofs.record.head_of.Reads as head-of-reads
 
 -- src/lib.rt:102:8
 shared-slice-read-if1 : tie.Need-shared-slice-read-if1

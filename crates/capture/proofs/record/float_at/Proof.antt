@@ -1,13 +1,13 @@
--- `capture::float_at` meets its contract. Assumes nothing.
+-- `capture::record::float_at` meets its contract. Assumes nothing.
 use mathlib.Core.Path.{_∙_, ap}
 use lib.Ieee.{binary32, ofBits}
 use borrow.Author.Needs.{needs}
-use Rattle.capture.proofs.float_at.Statement.{statement}
-use Rattle.capture.proofs.float_at.Tie as tie
-use Rattle.capture.proofs.float_at.Reads as reads
-use Rattle.capture.proofs.float_at.Lts as lts
-use Rattle.capture.proofs.float_of.Reads as float-of-reads
-use Rattle.capture.proofs.word_at.Reads as word-at-reads
+use Rattle.capture.proofs.record.float_at.Statement.{statement}
+use Rattle.capture.proofs.record.float_at.Tie as tie
+use Rattle.capture.proofs.record.float_at.Reads as reads
+use Rattle.capture.proofs.record.float_at.Lts as lts
+use Rattle.capture.proofs.record.float_of.Reads as float-of-reads
+use Rattle.capture.proofs.record.word_at.Reads as word-at-reads
 
 -- src/lib.rt:70:14
 word-at-requires : tie.Need-word-at-requires

@@ -1,13 +1,13 @@
--- `capture::parse_later` meets its contract: at each return the tests on the way say which case of `laterFront` it is. Assumes nothing.
+-- `capture::record::parse_later` meets its contract: at each return the tests on the way say which case of `laterFront` it is. Assumes nothing.
 use mathlib.Core.Path.{_∙_, ap, sym}
 use Rattle.capture.specs.declared.Parsed.the-variants.{Item}
 use Rattle.capture.proofs.Front.{later-cut, later-item, later-end, later-other}
 use borrow.Author.Needs.{needs}
-use Rattle.capture.proofs.parse_later.Statement.{statement}
-use Rattle.capture.proofs.parse_later.Tie as tie
-use Rattle.capture.proofs.parse_later.Reads as reads
-use Rattle.capture.proofs.parse_later.Lts as lts
-use Rattle.capture.proofs.float_at.Reads as float-at-reads
+use Rattle.capture.proofs.record.parse_later.Statement.{statement}
+use Rattle.capture.proofs.record.parse_later.Tie as tie
+use Rattle.capture.proofs.record.parse_later.Reads as reads
+use Rattle.capture.proofs.record.parse_later.Lts as lts
+use Rattle.capture.proofs.record.float_at.Reads as float-at-reads
 
 -- src/lib.rt:121:8
 shared-slice-read-if1 : tie.Need-shared-slice-read-if1

@@ -1,8 +1,8 @@
 use borrow.Author.Needs.{needs}
-use Rattle.capture.proofs.advance.Statement.{statement}
-use Rattle.capture.proofs.advance.Tie as tie
-use Rattle.capture.proofs.advance.Reads as reads
-use Rattle.capture.proofs.advance.Lts as lts
+use Rattle.capture.proofs.feeding.advance.Statement.{statement}
+use Rattle.capture.proofs.feeding.advance.Tie as tie
+use Rattle.capture.proofs.feeding.advance.Reads as reads
+use Rattle.capture.proofs.feeding.advance.Lts as lts
 
 -- src/lib.rt:188:19
 enum-told : tie.Need-enum-told

@@ -1,11 +1,11 @@
--- `capture::parse` meets its contract. Assumes nothing.
+-- `capture::record::parse` meets its contract. Assumes nothing.
 use borrow.Author.Needs.{needs}
-use Rattle.capture.proofs.parse.Statement.{statement}
-use Rattle.capture.proofs.parse.Tie as tie
-use Rattle.capture.proofs.parse.Reads as reads
-use Rattle.capture.proofs.parse.Lts as lts
-use Rattle.capture.proofs.parse_first.Reads as parse-first-reads
-use Rattle.capture.proofs.parse_later.Reads as parse-later-reads
+use Rattle.capture.proofs.record.parse.Statement.{statement}
+use Rattle.capture.proofs.record.parse.Tie as tie
+use Rattle.capture.proofs.record.parse.Reads as reads
+use Rattle.capture.proofs.record.parse.Lts as lts
+use Rattle.capture.proofs.record.parse_first.Reads as parse-first-reads
+use Rattle.capture.proofs.record.parse_later.Reads as parse-later-reads
 
 -- src/lib.rt:140:25
 enum-told : tie.Need-enum-told

@@ -1,9 +1,9 @@
--- `capture::finish` meets its contract. Assumes nothing.
+-- `capture::feeding::finish` meets its contract. Assumes nothing.
 use borrow.Author.Needs.{needs}
-use Rattle.capture.proofs.finish.Statement.{statement}
-use Rattle.capture.proofs.finish.Tie as tie
-use Rattle.capture.proofs.finish.Reads as reads
-use Rattle.capture.proofs.finish.Lts as lts
+use Rattle.capture.proofs.feeding.finish.Statement.{statement}
+use Rattle.capture.proofs.feeding.finish.Tie as tie
+use Rattle.capture.proofs.feeding.finish.Reads as reads
+use Rattle.capture.proofs.feeding.finish.Lts as lts
 
 -- src/lib.rt:280:25
 enum-told : tie.Need-enum-told

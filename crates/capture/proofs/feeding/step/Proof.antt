@@ -1,16 +1,16 @@
--- `capture::step` meets its contract. A sound reader has fewer than 12 bytes of a record, so there is a cell for the next. Assumes nothing.
+-- `capture::feeding::step` meets its contract. A sound reader has fewer than 12 bytes of a record, so there is a cell for the next. Assumes nothing.
 use mathlib.Core.Path.{sym}
 use native.Mathlib.Omega.{arith}
 use lib.ListN.{length-set}
 use Rattle.capture.proofs.Sound.{within, bytes-so-far}
 use borrow.Author.Needs.{needs}
-use Rattle.capture.proofs.step.Statement.{statement}
-use Rattle.capture.proofs.step.Tie as tie
-use Rattle.capture.proofs.step.Reads as reads
-use Rattle.capture.proofs.step.Lts as lts
-use Rattle.capture.proofs.advance.Reads as advance-reads
-use Rattle.capture.proofs.keep.Reads as keep-reads
-use Rattle.capture.proofs.parse.Reads as parse-reads
+use Rattle.capture.proofs.feeding.step.Statement.{statement}
+use Rattle.capture.proofs.feeding.step.Tie as tie
+use Rattle.capture.proofs.feeding.step.Reads as reads
+use Rattle.capture.proofs.feeding.step.Lts as lts
+use Rattle.capture.proofs.feeding.advance.Reads as advance-reads
+use Rattle.capture.proofs.feeding.keep.Reads as keep-reads
+use Rattle.capture.proofs.record.parse.Reads as parse-reads
 
 -- src/lib.rt:245:5
 array-write-pending : tie.Need-array-write-pending

@@ -1,12 +1,12 @@
--- `capture::half_at` meets its contract: each byte is below 256. Assumes nothing.
+-- `capture::record::half_at` meets its contract: each byte is below 256. Assumes nothing.
 use Prim.Native.Nat.{_+_}
 use native.Mathlib.Omega.{arith}
 use mathlib.Core.Path.{refl}
 use borrow.Author.Needs.{needs}
-use Rattle.capture.proofs.half_at.Statement.{statement}
-use Rattle.capture.proofs.half_at.Tie as tie
-use Rattle.capture.proofs.half_at.Reads as reads
-use Rattle.capture.proofs.half_at.Lts as lts
+use Rattle.capture.proofs.record.half_at.Statement.{statement}
+use Rattle.capture.proofs.record.half_at.Tie as tie
+use Rattle.capture.proofs.record.half_at.Reads as reads
+use Rattle.capture.proofs.record.half_at.Lts as lts
 
 -- src/lib.rt:45:5
 shared-slice-read-result : tie.Need-shared-slice-read-result

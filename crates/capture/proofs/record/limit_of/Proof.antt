@@ -1,10 +1,10 @@
--- `capture::limit_of` meets its contract. Assumes nothing.
+-- `capture::record::limit_of` meets its contract. Assumes nothing.
 use Rattle.capture.proofs.Front.{above}
 use borrow.Author.Needs.{needs}
-use Rattle.capture.proofs.limit_of.Statement.{statement}
-use Rattle.capture.proofs.limit_of.Tie as tie
-use Rattle.capture.proofs.limit_of.Reads as reads
-use Rattle.capture.proofs.limit_of.Lts as lts
+use Rattle.capture.proofs.record.limit_of.Statement.{statement}
+use Rattle.capture.proofs.record.limit_of.Tie as tie
+use Rattle.capture.proofs.record.limit_of.Reads as reads
+use Rattle.capture.proofs.record.limit_of.Lts as lts
 
 -- src/lib.rt:77:9
 returns : tie.Need-returns
