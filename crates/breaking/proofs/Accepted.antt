@@ -22,7 +22,7 @@ use Rattle.refusal.proofs.Checks.{judged-checked, least-append, least-one, then
 use Rattle.breaking.specs.declared.AvailableSpace.{AvailableSpace}
 use Rattle.breaking.specs.declared.AvailableSpace.the-variants.{Definite, MinContent, MaxContent}
 use Rattle.breaking.specs.declared.Query.{Query}
-use Rattle.breaking.specs.Limit.{spaceNumbers, boundNumbers, limitInput}
+use Rattle.breaking.specs.Limit.{spaceNumbers, boundNumbers, limitInput, limitVerdict}
 use Rattle.breaking.specs.Calls.{breakingInput, outerSum, breakingVerdict}
 use Rattle.breaking.specs.Steps.{LengthLimit, Breakable}
 
@@ -47,15 +47,15 @@ none-more l = ap (λ (t : List Number). leastOf t 0) (sym (append-nil l)) ∙ le
 abbrev pub queryMark : Query → ℕ
 queryMark q = min (leastOf (spaceNumbers (q .available)) 0) (min (leastOf (boundNumbers (q .minimum)) 0) (leastOf (boundNumbers (q .maximum)) 0))
 
-pub query-checked : (q : Query) → judged (queryMark q) ≡ checked (limitInput q) Passed
+pub query-checked : (codes : List Number) (q : Query) → judged (min (leastOf codes 0) (queryMark q)) ≡ limitVerdict codes q
 unfolding leastUpTo
-query-checked q =
+query-checked codes q =
     let s = spaceNumbers (q .available) in
     let a = boundNumbers (q .minimum) in
     let b = boundNumbers (q .maximum) in
-    ap judged (sym (least-append s (a ++ b) 0 ∙ ap (min (leastOf s 0)) (least-append a b 0)) ∙ none-more (s ++ (a ++ b)))
-    ∙ sym (then-last (judged (leastMark (limitInput q))))
-    ∙ judged-checked (limitInput q) zero-le Passed
+    ap judged (sym (least-append codes (s ++ (a ++ b)) 0 ∙ ap (min (leastOf codes 0)) (least-append s (a ++ b) 0 ∙ ap (min (leastOf s 0)) (least-append a b 0))) ∙ none-more (codes ++ (s ++ (a ++ b))))
+    ∙ sym (then-last (judged (leastMark (limitInput codes q))))
+    ∙ judged-checked (limitInput codes q) zero-le Passed
 
 -- the mark of a breaking call: codes with this least mark, the limit and the gap, and then the items
 abbrev pub breakingMark : ℕ → AvailableSpace → Float → List Float → ℕ

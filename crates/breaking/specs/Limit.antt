@@ -57,7 +57,7 @@ byMaximum q (Given maximum) = Definite (cleaned (raisedTo (q .minimum) (underMax
 abbrev pub breakLimit : Query → AvailableSpace
 breakLimit q = cond (q .«known_is_definite») (byMaximum q (q .maximum)) MaxContent
 
--- ---- the numbers that the call takes, all of them the container's, whatever the answer turns on
+-- ---- the numbers that the call takes, all of them the container's, whatever the answer turns on; codes come before them
 
 abbrev pub spaceNumbers : AvailableSpace → List Number
 spaceNumbers (Definite x) = float Length x ∷ []
@@ -68,8 +68,11 @@ abbrev pub boundNumbers : Bound → List Number
 boundNumbers Absent = []
 boundNumbers (Given x) = float Size x ∷ []
 
-abbrev pub limitInput : Query → Input
-limitInput q = record { container = spaceNumbers (q .available) ++ (boundNumbers (q .minimum) ++ boundNumbers (q .maximum)); count = 0; item = λ i. [] }
+abbrev pub limitInput : List Number → Query → Input
+limitInput codes q = record { container = codes ++ (spaceNumbers (q .available) ++ (boundNumbers (q .minimum) ++ boundNumbers (q .maximum))); count = 0; item = λ i. [] }
+
+abbrev pub limitVerdict : List Number → Query → Verdict
+limitVerdict codes q = checked (limitInput codes q) Passed
 
 abbrev pub limitFrom : Verdict → Query → BreakLimit
 limitFrom Passed q = Limit (breakLimit q)
@@ -77,4 +80,4 @@ limitFrom (verdict.Refused why) q = limit.Refused why
 
 -- the whole call
 abbrev pub limitCall : Query → BreakLimit
-limitCall q = limitFrom (checked (limitInput q) Passed) q
+limitCall q = limitFrom (limitVerdict [] q) q

@@ -7,7 +7,7 @@ ghost use lib.IntN.{ℤ};
 ghost use Rattle.grid.specs.Grid.{At, sixtyFourths};
 ghost use Rattle.refusal.specs.Domain.{Number};
 ghost use Rattle.refusal.specs.Marks.{leastOf};
-ghost use Rattle.breaking.specs.Limit.{lowered, raised, raisedTo, numberOr, underMaximum, keepsSpace, withoutMaximum, byMaximum, breakLimit, spaceNumbers, boundNumbers, limitCall};
+ghost use Rattle.breaking.specs.Limit.{lowered, raised, raisedTo, numberOr, underMaximum, keepsSpace, withoutMaximum, byMaximum, breakLimit, spaceNumbers, boundNumbers, limitVerdict, limitCall};
 ghost use Rattle.breaking.specs.Breaking.{limitOf, fits, greedy};
 ghost use Rattle.breaking.specs.Calls.{breakingVerdict, units, broken, greedyCall};
 ghost use Rattle.breaking.specs.Steps.{LengthLimit, Breakable, LineEnd, Counted, cleared};
@@ -125,7 +125,8 @@ fn by_maximum(q: Query, maximum: Bound) -> AvailableSpace
     }
 }
 
-fn limit_of(q: Query) -> AvailableSpace
+// The break limit of numbers that have passed the checks.
+pub fn limit_of(q: Query) -> AvailableSpace
     ensures { λ r. ⌜ r ≡ breakLimit q ⌝ }
 {
     let maximum = q.maximum;
@@ -155,16 +156,23 @@ fn mark_bound(bound: Bound) -> Mark
     }
 }
 
-// The break limit of any bits: refusals 3, 4 and 5 are the container's.
-pub fn break_limit(q: Query) -> BreakLimit
-    ensures { λ r. ⌜ r ≡ limitCall q ⌝ }
+// Checks 3 to 5 of a break limit. `codes` is the mark of codes that were taken before its numbers.
+pub fn check_limit(codes: Mark, q: Query) -> Verdict
+    ensures { λ r. ⌜ ((cs : List Number) → codes .0 ≡ leastOf cs 0 → r ≡ limitVerdict cs q) ⌝ }
 {
     let available = q.available;
     let minimum = q.minimum;
     let maximum = q.maximum;
     let bounds = refusal::least(mark_bound(minimum), mark_bound(maximum));
-    let m = refusal::least(mark_space(available), bounds);
-    match refusal::judge(m) {
+    let numbers = refusal::least(mark_space(available), bounds);
+    refusal::judge(refusal::least(codes, numbers))
+}
+
+// The break limit of any bits: refusals 3, 4 and 5 are the container's.
+pub fn break_limit(q: Query) -> BreakLimit
+    ensures { λ r. ⌜ r ≡ limitCall q ⌝ }
+{
+    match check_limit(refusal::no_mark(), q) {
         Verdict::Refused(why) => BreakLimit::Refused(why),
         Verdict::Passed => BreakLimit::Limit(limit_of(q)),
     }

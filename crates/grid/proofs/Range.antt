@@ -1,17 +1,15 @@
 -- A test of range by two comparisons, and what it says of sixty-fourths. Assumes nothing.
 use mathlib.Core.Path.{_≡_, refl, sym, ap, ap₂, _∙_, subst}
 use mathlib.Core.Logic.{_↔_}
-use mathlib.Core.Bool.{Bool, true, false, not, _&&_, cond, false≢true}
-use Prim.Native.Nat.{ℕ, zero, suc, _*_, _/_, _%_, _^_, _≤_, _<_}
-use native.Mathlib.Nat.{mul-one, one-mul, mul-comm, mul-assoc, mul-right-comm, mul-le-mul-right, le-of-mul-le-mul-right, zero-lt-suc}
-use native.Mathlib.Omega.{arith}
+use mathlib.Core.Bool.{Bool, true, false, _&&_, cond, false≢true}
+use Prim.Native.Nat.{ℕ, zero, suc, _*_, _^_, _≤_, _<_}
+use native.Mathlib.Nat.{mul-one, one-mul, mul-right-comm, mul-le-mul-right, le-of-mul-le-mul-right, zero-lt-suc}
 use lib.Dec.{T, leb, leb→le, le→leb, leb·zero, leb·suc-zero, leb·suc-suc}
-use lib.IntN.{ℤ, pos, negsuc, negℤ, natAbs}
+use lib.IntN.{ℤ, pos, negℤ, natAbs}
 use lib.Signed.{leZ}
 use lib.Ieee.{Float, nan, inf, fin, up, down, le, neg}
 use lib.Ieee.Fits.{down-pos}
 use lib.Ieee.Scale.{finite}
-use lib.Ieee.Exact.{HasValue}
 use Rattle.grid.specs.Grid.{signed, At, onGrid, sixtyFourths, within}
 use Rattle.grid.proofs.Exact.{le-at}
 use Rattle.grid.proofs.Meaning.{at-of-grid, none, none-at}

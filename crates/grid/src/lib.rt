@@ -19,7 +19,7 @@ pub fn is_finite(x: f32) -> bool
 
 // Whether x, which is not below 0, is a whole multiple of 1/64. From 131,072 px up every float is. Below, adding 131,072 px moves x to the
 // nearest multiple, since there the floats are just the multiples, and taking them away again gives x back only where it was one. (A
-// remainder would do, but it is a call of C's fmodf, twenty times as slow, and a product by 64 overflows.)
+// remainder by 1/64 is a call of C's fmodf, and a product by 64 overflows.)
 fn on_grid_from_0(x: f32) -> bool
     ensures { λ r. ⌜ (lt x none ≡ false → r ≡ onGrid x) ⌝ }
 {

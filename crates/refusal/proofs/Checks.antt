@@ -1,22 +1,21 @@
 -- What a caller goes by: the least mark is the refusal that document 01's order of checks gives, marks of parts make those of the whole, and what acceptance says of every number.
 -- Assumes nothing.
 use mathlib.Core.Path.{_≡_, refl, sym, ap, ap₂, _∙_, subst}
-use mathlib.Core.Logic.{_↔_}
 use mathlib.Core.Bool.{Bool, true, false, not, cond, _&&_, _||_, true≢false, false≢true}
 use mathlib.Core.List.{List, [], _∷_, _++_}
 use Prim.Native.Nat.{ℕ, zero, suc, _+_, _-_, _≤_, _<_, min}
-use native.Mathlib.Nat.{min-eq-left, min-eq-right, le-refl, zero-add}
+use native.Mathlib.Nat.{min-eq-left, le-refl}
 use native.Mathlib.Numerals.{add-one}
 use native.Mathlib.Omega.{arith}
 use lib.Dec.{T, ltb, leb}
 use lib.IntN.{ℤ, pos, negsuc, natAbs}
 use lib.Signed.{leZ}
-use lib.Ieee.{Float, binary32, le, ofBits}
+use lib.Ieee.{Float, le}
 use lib.Ieee.Scale.{finite}
 use borrow.Author.Tests.{lt-ltb, le-ltb, ltb-true, ltb-false, leb-true, not-false}
 use Rattle.grid.specs.Grid.{Length, onGrid, sixtyFourths, within}
 use Rattle.grid.proofs.Exact.{le-at}
-use Rattle.grid.proofs.Meaning.{none, none-at, none-bits, at-of-grid}
+use Rattle.grid.proofs.Meaning.{none-at, none-bits, at-of-grid}
 use Rattle.grid.proofs.Range.{within-small}
 use Rattle.refusal.specs.declared.Kind.the-variants as kind
 use Rattle.refusal.specs.declared.Place.{Place}
@@ -26,7 +25,7 @@ use Rattle.refusal.specs.declared.Refusal.the-variants.{TooManyItems, To
 use Rattle.refusal.specs.declared.Verdict.{Verdict}
 use Rattle.refusal.specs.declared.Verdict.the-variants.{Passed, Refused}
 use Rattle.refusal.specs.declared.Answer.the-variants as answer
-use Rattle.refusal.specs.Domain.{Number, float, code, inRange, notBelow0, notFinite, offGrid, outOfRange, Input, any, first, orElse, check, checked, shape, summed, then, Paper, paper}
+use Rattle.refusal.specs.Domain.{Number, float, code, inRange, notBelow0, notFinite, offGrid, outOfRange, Input, any, first, orElse, check, checked, shape, summed, then, paper}
 use Rattle.refusal.specs.Marks.{mark, leastOf, leastUpTo, leastMark, placeOf, judged, Fine, AllFine, Sound}
 use Rattle.refusal.proofs.Order.{cond-le, markOf, least-is, least-ext, items-are}
 

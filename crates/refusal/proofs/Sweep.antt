@@ -1,6 +1,6 @@
 -- What the loops over a list of items keep: the least, and the sum, of one item more. Assumes nothing.
-use mathlib.Core.Path.{_≡_, refl, sym, ap, _∙_}
-use Prim.Native.Nat.{ℕ, suc, _+_, min}
+use mathlib.Core.Path.{_≡_, refl, ap}
+use Prim.Native.Nat.{ℕ, _+_, min}
 use native.Mathlib.Numerals.{add-one}
 use Rattle.refusal.specs.Marks.{leastUpTo, sumUpTo}
 

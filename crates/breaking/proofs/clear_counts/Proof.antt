@@ -1,7 +1,7 @@
 -- `clear_counts` meets its contract: the cells from `from` up to i are 0, the others as they were (Counts.antt). Assumes nothing.
 use mathlib.Core.Path.{_≡_, refl, ap, _∙_}
 use Prim.Native.Nat.{ℕ, _-_, _≤_, _<_}
-use native.Mathlib.Nat.{le-refl, le-antisymm}
+use native.Mathlib.Nat.{le-antisymm}
 use native.Mathlib.Omega.{arith}
 use mathlib.Core.List.{List}
 use lib.ListN.{length, length-set}
@@ -25,7 +25,7 @@ abbrev μ-loop : tie.MeasureT-loop
 μ-loop counts₀ from to i₀ counts i = to - i
 
 loop-holds : tie.Need-loop-holds Inv-loop μ-loop
-loop-holds c = record { after = le-refl (c .args .from); inside = c .pre .0; long = refl; zeros = clear-none (c .args .from) (now (c .args .counts)) }
+loop-holds c = record { after = omega arith; inside = omega arith; long = refl; zeros = clear-none (c .args .from) (now (c .args .counts)) }
 
 inside : (c : tie.In-loop Inv-loop μ-loop) → c .before .loop .i < length (now (c .before .before .args .counts))
 inside c = omega (arith, c .loop-test .taken, c .before .before .pre .1)

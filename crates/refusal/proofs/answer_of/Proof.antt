@@ -1,5 +1,5 @@
 -- `refusal::answer_of` meets its contract, by the two cases of a verdict. Assumes nothing.
-use mathlib.Core.Path.{_≡_, sym, ap}
+use mathlib.Core.Path.{sym, ap}
 use borrow.Author.Needs.{needs}
 use Rattle.refusal.specs.declared.Verdict.{Verdict}
 use Rattle.refusal.specs.Domain.{asAnswer}

@@ -1,5 +1,5 @@
 -- `refusal::in_range` meets its contract: each kind has a greatest and a least number, and two comparisons say what `inRange` says. Assumes nothing.
-use mathlib.Core.Path.{_≡_, refl, sym, ap, _∙_}
+use mathlib.Core.Path.{_≡_, sym, ap, _∙_}
 use mathlib.Core.Bool.{Bool, true, false, cond}
 use borrow.Author.Needs.{needs}
 use lib.Ieee.{Float, binary32, le, neg, ofBits}

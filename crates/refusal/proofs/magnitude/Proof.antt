@@ -1,7 +1,7 @@
 -- `refusal::magnitude` meets its contract. A signed local holds bits, and the machine reads the number back from them: `back` and `back-neg` take that away.
 -- Assumes nothing.
 use mathlib.Core.Path.{_≡_, refl, sym, ap, _∙_, subst}
-use mathlib.Core.Bool.{Bool, true, false, false≢true, true≢false}
+use mathlib.Core.Bool.{true, false, false≢true, true≢false}
 use Prim.Native.Nat.{ℕ, zero, suc, _≤_, _<_, _^_}
 use native.Mathlib.Nat.{lt-of-le-of-lt, lt-of-lt-of-le}
 use lib.Dec.{T, lit≤, lit<, leb·suc-zero}

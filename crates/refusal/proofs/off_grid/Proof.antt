@@ -1,9 +1,9 @@
 -- `refusal::off_grid` meets its contract: a kind that has no grid is never off it. Assumes nothing.
-use mathlib.Core.Path.{_≡_, sym, ap, ap₂, _∙_}
+use mathlib.Core.Path.{sym, ap, ap₂, _∙_}
 use mathlib.Core.Bool.{Bool, not, _&&_}
 use borrow.Author.Needs.{needs}
 use Rattle.grid.specs.Grid.{onGrid}
-use Rattle.refusal.specs.Domain.{gridded, offGrid}
+use Rattle.refusal.specs.Domain.{offGrid}
 use Rattle.refusal.proofs.off_grid.Statement.{statement}
 use Rattle.refusal.proofs.off_grid.Tie as tie
 

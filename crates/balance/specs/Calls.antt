@@ -1,0 +1,70 @@
+-- The balanced call: what it takes, checks and answers (document 01, "Domain and refusal numbers" and "Breaking"). Assumes nothing.
+use mathlib.Core.Path.{_≡_}
+use mathlib.Core.Bool.{Bool, _&&_}
+use mathlib.Core.List.{List, [], _++_}
+use Prim.Native.Nat.{ℕ, _*_, min}
+use lib.Dec.{leb}
+use lib.ListN.{length, drop, replicate}
+use lib.Ieee.{Float, binary64, ofBits}
+use Rattle.grid.specs.Grid.{sixtyFourths}
+use Rattle.refusal.specs.declared.Refusal.{Refusal}
+use Rattle.refusal.specs.declared.Verdict.{Verdict}
+use Rattle.refusal.specs.declared.Verdict.the-variants.{Passed}
+use Rattle.refusal.specs.declared.Verdict.the-variants as verdict
+use Rattle.refusal.specs.declared.Answer.{Answer}
+use Rattle.refusal.specs.declared.Answer.the-variants.{Done}
+use Rattle.refusal.specs.declared.Answer.the-variants as answer
+use Rattle.breaking.specs.declared.AvailableSpace.{AvailableSpace}
+use Rattle.breaking.specs.Breaking.{limitOf}
+use Rattle.breaking.specs.Calls.{breakingVerdict, units, written}
+use Rattle.balance.specs.Rule.{Balanced}
+
+-- the lists that the call is lent: the counts by line, and the cells to work in
+pub record Lent : Type 0 where
+  pub counts : List ℕ
+  pub opts : List ℕ
+  pub fit : List ℕ
+  pub greedy : List ℕ
+  pub reach : List ℕ
+  pub sums : List Float
+  pub prev : List Float
+  pub cur : List Float
+
+abbrev pub lent : List ℕ → List ℕ → List ℕ → List ℕ → List ℕ → List Float → List Float → List Float → Lent
+lent counts opts fit greedy reach sums prev cur = record { counts = counts; opts = opts; fit = fit; greedy = greedy; reach = reach; sums = sums; prev = prev; cur = cur }
+
+-- "n cells for each answer list ..; balanced breaking also n·n+3n u32 cells and 3n f64 cells": n of each list, and n·n of opts
+abbrev pub shortestOf : ℕ → ℕ → ℕ → ℕ → ℕ → ℕ → ℕ → ℕ
+shortestOf counts fit greedy reach sums prev cur = min counts (min fit (min greedy (min reach (min sums (min prev cur)))))
+
+abbrev pub hasRoom : ℕ → Lent → Bool
+hasRoom n l =
+    leb n (shortestOf (length (l .counts)) (length (l .fit)) (length (l .greedy)) (length (l .reach)) (length (l .sums)) (length (l .prev)) (length (l .cur)))
+    && leb (n * n) (length (l .opts))
+
+abbrev pub balancedVerdict : AvailableSpace → Float → List Float → Lent → Verdict
+balancedVerdict limit gap sizes before = breakingVerdict [] limit gap sizes (hasRoom (length sizes) before)
+
+-- "After acceptance those work cells are zero, and all cells past the named ones are unchanged."
+abbrev pub zeroed : ℕ → List ℕ → List ℕ
+zeroed n before = replicate n 0 ++ drop n before
+
+abbrev pub zeroedF : ℕ → List Float → List Float
+zeroedF n before = replicate n (ofBits binary64 0) ++ drop n before
+
+abbrev pub worked : ℕ → List ℕ → Lent → Lent
+worked n lines b =
+    lent (written n lines (b .counts)) (zeroed (n * n) (b .opts)) (zeroed n (b .fit)) (zeroed n (b .greedy)) (zeroed n (b .reach))
+    (zeroedF n (b .sums)) (zeroedF n (b .prev)) (zeroedF n (b .cur))
+
+-- the balanced division's counts in the lent lists
+pub record Divides (limit : AvailableSpace) (gap : Float) (minimum : ℕ) (sizes : List Float) (before : Lent) (lines : ℕ) (after : Lent) : Type 0 where
+  pub division : List ℕ
+  pub balanced : Balanced (limitOf limit) (sixtyFourths gap) (units sizes) minimum division
+  pub lines-are : lines ≡ length division
+  pub cells : after ≡ worked (length sizes) division before
+
+-- THE CALL: it refuses by the checks and changes nothing, or it answers with the number of lines and leaves their counts
+pub record BalancedCall (limit : AvailableSpace) (gap : Float) (minimum : ℕ) (sizes : List Float) (before : Lent) (r : Answer) (after : Lent) : Type 0 where
+  pub refused : (why : Refusal) → balancedVerdict limit gap sizes before ≡ verdict.Refused why → (r ≡ answer.Refused why) × (after ≡ before)
+  pub accepted : balancedVerdict limit gap sizes before ≡ Passed → (lines : ℕ) × (r ≡ Done lines 0) × Divides limit gap minimum sizes before lines after

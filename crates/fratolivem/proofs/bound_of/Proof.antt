@@ -1,0 +1,16 @@
+-- `fratolivem::bound_of` meets its contract, by the two cases of a flag. Assumes nothing.
+use mathlib.Core.Path.{_≡_, sym, ap}
+use mathlib.Core.Bool.{Bool}
+use Rattle.fratolivem.specs.Boundary.{boundOf}
+use borrow.Author.Needs.{needs}
+use Rattle.fratolivem.proofs.bound_of.Statement.{statement}
+use Rattle.fratolivem.proofs.bound_of.Tie as tie
+
+returns : tie.Need-returns
+returns c = ap (λ (b : Bool). boundOf b (c .before .args .x)) (sym (c .if1 .taken))
+
+returns-2 : tie.Need-returns-2
+returns-2 c = search needs
+
+pub bound-of-spec : {M : Type 1} → statement M
+bound-of-spec = tie.close (tie.spec returns returns-2)

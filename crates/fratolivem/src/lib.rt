@@ -1,0 +1,226 @@
+// The calls that a host in C or C++ links (include/fratolivem.h). Enums do not cross, so kinds are codes here, and a code that names
+// nothing is refusal 5. Every call takes any bits; all else is inside.
+ghost use mathlib.Core.Path.{_≡_};
+ghost use lib.Ieee.{Float};
+ghost use Rattle.breaking.specs.Limit.{limitFrom};
+ghost use Rattle.refusal.specs.Marks.{leastOf};
+ghost use Rattle.refusal.specs.Domain.{refusedAs, whereOf, refusalOf};
+ghost use Rattle.fratolivem.specs.Boundary.{crossed, cAnswer, spaceOf, boundOf, cSpace, cRefused, cLimit, askedCodes, limitFromC, Crossed, greedyFromC};
+use breaking::AvailableSpace;
+use breaking::Bound;
+use breaking::Query;
+use refusal::Answer;
+use refusal::Mark;
+use refusal::Place;
+use refusal::Refusal;
+use refusal::Verdict;
+
+// An answer's number, its place, its lines and its rounds. `at` says where: 0 nowhere, 1 the container, 2 the item, line or byte `place`.
+#[repr(C)]
+pub struct CAnswer {
+    pub number: u32,
+    pub at: u32,
+    pub place: u32,
+    pub lines: u32,
+    pub rounds: u32,
+}
+
+// A break limit: number and place as above, then its kind (0 definite, 1 min-content, 2 max-content), and the limit where it is definite.
+#[repr(C)]
+pub struct CLimit {
+    pub number: u32,
+    pub at: u32,
+    pub place: u32,
+    pub kind: u32,
+    pub limit: f32,
+}
+
+fn refused(number: u32, place: Place) -> CAnswer
+    ensures { λ r. ⌜ r ≡ crossed (refusedAs number (whereOf place)) ⌝ }
+{
+    match place {
+        Place::Container => CAnswer {
+            number,
+            at: 1,
+            place: 0,
+            lines: 0,
+            rounds: 0,
+        },
+        Place::At(i) => CAnswer {
+            number,
+            at: 2,
+            place: i,
+            lines: 0,
+            rounds: 0,
+        },
+    }
+}
+
+fn refusal_to_c(why: Refusal) -> CAnswer
+    ensures { λ r. ⌜ r ≡ crossed (refusalOf why) ⌝ }
+{
+    match why {
+        Refusal::TooManyItems => refused(1, Place::Container),
+        Refusal::TooLittleRoom => refused(2, Place::Container),
+        Refusal::NotFinite(p) => refused(3, p),
+        Refusal::OffGrid(p) => refused(4, p),
+        Refusal::OutOfRange(p) => refused(5, p),
+        Refusal::SumTooLarge => refused(6, Place::Container),
+    }
+}
+
+fn to_c(a: Answer) -> CAnswer
+    ensures { λ r. ⌜ r ≡ cAnswer a ⌝ }
+{
+    match a {
+        Answer::Done { lines, rounds } => CAnswer {
+            number: 0,
+            at: 0,
+            place: 0,
+            lines,
+            rounds,
+        },
+        Answer::Refused(why) => refusal_to_c(why),
+    }
+}
+
+fn space_of(kind: u32, limit: f32) -> AvailableSpace
+    ensures { λ r. ⌜ r ≡ spaceOf kind limit ⌝ }
+{
+    if kind == 0 {
+        return AvailableSpace::Definite(limit);
+    }
+    if kind == 1 {
+        return AvailableSpace::MinContent;
+    }
+    AvailableSpace::MaxContent
+}
+
+fn bound_of(given: bool, x: f32) -> Bound
+    ensures { λ r. ⌜ r ≡ boundOf given x ⌝ }
+{
+    if given {
+        Bound::Given(x)
+    } else {
+        Bound::Absent
+    }
+}
+
+fn space_to_c(space: AvailableSpace) -> CLimit
+    ensures { λ r. ⌜ r ≡ cSpace space ⌝ }
+{
+    match space {
+        AvailableSpace::Definite(x) => CLimit {
+            number: 0,
+            at: 0,
+            place: 0,
+            kind: 0,
+            limit: x,
+        },
+        AvailableSpace::MinContent => CLimit {
+            number: 0,
+            at: 0,
+            place: 0,
+            kind: 1,
+            limit: 0.0,
+        },
+        AvailableSpace::MaxContent => CLimit {
+            number: 0,
+            at: 0,
+            place: 0,
+            kind: 2,
+            limit: 0.0,
+        },
+    }
+}
+
+fn no_limit(r: CAnswer) -> CLimit
+    ensures { λ l. ⌜ l ≡ cRefused r ⌝ }
+{
+    CLimit {
+        number: r.number,
+        at: r.at,
+        place: r.place,
+        kind: 0,
+        limit: 0.0,
+    }
+}
+
+// The mark of the codes of a break limit, all of them the container's.
+fn mark_codes(known: u32, main: u32, row: u32, kind: u32, low: u32, high: u32) -> Mark
+    ensures { λ r. ⌜ ((x y z : Float) → r .0 ≡ leastOf (askedCodes (record { known = known; main = main; row = row; kind = kind; available = x; low = low; minimum = y; high = high; maximum = z })) 0) ⌝ }
+{
+    let flags = refusal::least(
+        refusal::mark_code(1, known, 0),
+        refusal::least(
+            refusal::mark_code(1, main, 0),
+            refusal::mark_code(1, row, 0),
+        ),
+    );
+    let kinds = refusal::least(
+        refusal::mark_code(2, kind, 0),
+        refusal::least(
+            refusal::mark_code(1, low, 0),
+            refusal::mark_code(1, high, 0),
+        ),
+    );
+    refusal::least(flags, kinds)
+}
+
+fn limit_to_c(v: Verdict, q: Query) -> CLimit
+    ensures { λ r. ⌜ r ≡ cLimit (limitFrom v q) ⌝ }
+{
+    match v {
+        Verdict::Refused(why) => no_limit(refusal_to_c(why)),
+        Verdict::Passed => space_to_c(breaking::limit_of(q)),
+    }
+}
+
+#[no_mangle]
+pub extern "C" fn fratolivem_break_limit(
+    known: u32,
+    main: u32,
+    row: u32,
+    kind: u32,
+    available: f32,
+    low: u32,
+    minimum: f32,
+    high: u32,
+    maximum: f32,
+) -> CLimit
+    ensures { λ r. ⌜ r ≡ limitFromC (record { known = known; main = main; row = row; kind = kind; available = available; low = low; minimum = minimum; high = high; maximum = maximum }) ⌝ }
+{
+    let codes = mark_codes(known, main, row, kind, low, high);
+    let space = space_of(kind, available);
+    let least = bound_of(low == 1, minimum);
+    let most = bound_of(high == 1, maximum);
+    let q = Query {
+        known_is_definite: known == 1,
+        main_is_definite: main == 1,
+        is_row: row == 1,
+        available: space,
+        minimum: least,
+        maximum: most,
+    };
+    limit_to_c(breaking::check_limit(codes, q), q)
+}
+
+#[no_mangle]
+pub extern "C" fn fratolivem_greedy(
+    limit_kind: u32,
+    limit: f32,
+    gap: f32,
+    sizes: &[f32],
+    counts: &mut [u32],
+) -> CAnswer
+    ensures { λ r. ⌜ Crossed r (now (counts .exit)) (greedyFromC «limit_kind» limit gap (now (sizes .entry)) (now (counts .entry))) ⌝ }
+{
+    let space = space_of(limit_kind, limit);
+    if 2 < limit_kind {
+        // No call inside knows such a kind: only the checks are run, and one of them refuses.
+        let kind = refusal::mark_code(2, limit_kind, 0);
+        let v = breaking::check_breaking(kind, space, gap, sizes, sizes.len() <= counts.len());
+        return to_c(refusal::answer_of(v, 0, 0));
+    }
+    to_c(breaking::greedy(space, gap, sizes, counts))
+}

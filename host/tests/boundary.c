@@ -1,0 +1,118 @@
+/* The header from C99: document 01's examples, canary cells round every lent list, and refusals that change nothing.
+ * What the calls answer on many lists is compared in boundary.cpp. */
+#include <math.h>
+#include <stdio.h>
+#include <string.h>
+
+#include "fratolivem.h"
+
+#define CANARY 0xa5a5a5a5u
+#define MOST 8
+
+static int bad = 0, done = 0;
+
+static void expect(int ok, const char *what) {
+    done++;
+    if (!ok) {
+        bad++;
+        printf("DIFFERS: %s\n", what);
+    }
+}
+
+/* Counts, work and sums, each with a canary cell before and after what is lent. */
+static uint32_t counts[MOST + 2], work[MOST * MOST + 3 * MOST + 2];
+static double sums[3 * MOST + 2];
+
+static void dirty(void) {
+    size_t i;
+    for (i = 0; i < MOST + 2; i++) counts[i] = CANARY;
+    for (i = 0; i < MOST * MOST + 3 * MOST + 2; i++) work[i] = CANARY;
+    memset(sums, 0xa5, sizeof sums);
+}
+
+/* Whether the cells before a list and from `from` on still hold what dirty() left. */
+static int canaries(const void *list, size_t cell, size_t all, size_t from) {
+    const unsigned char *b = (const unsigned char *)list;
+    size_t i;
+    for (i = 0; i < all * cell; i++)
+        if ((i < cell || i >= (1 + from) * cell) && b[i] != 0xa5) return 0;
+    return 1;
+}
+
+static int zeros(const void *cells, size_t bytes) {
+    const unsigned char *b = (const unsigned char *)cells;
+    size_t i;
+    for (i = 0; i < bytes; i++)
+        if (b[i]) return 0;
+    return 1;
+}
+
+static int all_canaries(size_t n_counts, size_t n_work, size_t n_sums) {
+    return canaries(counts, 4, MOST + 2, n_counts) && canaries(work, 4, MOST * MOST + 3 * MOST + 2, n_work) &&
+           canaries(sums, 8, 3 * MOST + 2, n_sums);
+}
+
+static void example(const char *name, uint32_t kind, float limit, float gap, uint32_t minimum, const float *sizes, size_t n,
+                    const uint32_t *wanted, size_t lines) {
+    const size_t n_work = fratolivem_work_cells(n), n_sums = fratolivem_sum_cells(n);
+    fratolivem_answer a;
+    size_t i;
+    dirty();
+    a = fratolivem_balanced(kind, limit, gap, minimum, sizes, n, counts + 1, MOST, work + 1, n_work, sums + 1, n_sums);
+    expect(a.number == 0 && a.where == 0 && a.place == 0 && a.lines == lines && a.rounds == 0, name);
+    for (i = 0; i < n; i++) expect(counts[1 + i] == (i < lines ? wanted[i] : 0), name);
+    expect(zeros(work + 1, 4 * n_work) && zeros(sums + 1, 8 * n_sums), name);
+    expect(all_canaries(n, n_work, n_sums), name);
+}
+
+static void refused(const char *name, fratolivem_answer a, uint32_t number, uint32_t where, uint32_t place) {
+    expect(a.number == number && a.where == where && a.place == place && a.lines == 0 && a.rounds == 0, name);
+    expect(all_canaries(0, 0, 0), name);
+}
+
+#define LIST(...) ((const float[]){__VA_ARGS__}), sizeof((const float[]){__VA_ARGS__}) / sizeof(float)
+#define COUNTS(...) ((const uint32_t[]){__VA_ARGS__}), sizeof((const uint32_t[]){__VA_ARGS__}) / sizeof(uint32_t)
+
+int main(void) {
+    const float holed[] = {5, 6, NAN, 0.01f};
+    fratolivem_answer a;
+    fratolivem_limit l;
+
+    example("P1", FRATOLIVEM_DEFINITE, 100, 10, 1, LIST(70, 0, 20), COUNTS(2, 1));
+    example("P2", FRATOLIVEM_DEFINITE, 100, 0, 1, LIST(150, 0, 30), COUNTS(1, 2));
+    example("P3", FRATOLIVEM_DEFINITE, 100, 0, 2, LIST(70, 0, 0), COUNTS(2, 1));
+    example("P4", FRATOLIVEM_DEFINITE, 100, 0, 2, LIST(10, 10, 10), COUNTS(2, 1));
+    example("P5", FRATOLIVEM_DEFINITE, 150, 0, 1, LIST(50, 50, 50, 10), COUNTS(2, 2));
+    example("P6", FRATOLIVEM_DEFINITE, 100, 10, 1, LIST(45, 45), COUNTS(2));
+    example("P7", FRATOLIVEM_MAX_CONTENT, NAN, 0, 9, LIST(5), COUNTS(1));
+    example("P8", FRATOLIVEM_DEFINITE, 100, 0, 1, NULL, 0, NULL, 0);
+    example("P9", FRATOLIVEM_MAX_CONTENT, NAN, 0, 0, LIST(5, 6), COUNTS(2));
+    example("an end that one start may use", FRATOLIVEM_DEFINITE, 90, 10, 1, LIST(30, 5, 40, 20, 0, 0, 35), COUNTS(2, 1, 4));
+    example("min-content", FRATOLIVEM_MIN_CONTENT, NAN, 10, 1, LIST(30, 5, 40), COUNTS(1, 1, 1));
+
+    dirty();
+    a = fratolivem_greedy(FRATOLIVEM_DEFINITE, 150, 0, LIST(50, 50, 50, 10), counts + 1, MOST);
+    expect(a.number == 0 && a.lines == 2 && counts[1] == 3 && counts[2] == 1 && zeros(counts + 3, 8), "P5 greedy");
+    expect(all_canaries(4, 0, 0), "P5 greedy");
+
+    dirty();
+    refused("NaN", fratolivem_greedy(FRATOLIVEM_DEFINITE, 100, 0, holed, 4, counts + 1, 4), 3, FRATOLIVEM_AT, 2);
+    refused("NaN, balanced", fratolivem_balanced(FRATOLIVEM_DEFINITE, 100, 0, 1, holed, 4, counts + 1, 4, work + 1, 28, sums + 1, 12), 3,
+            FRATOLIVEM_AT, 2);
+    refused("off the grid", fratolivem_greedy(FRATOLIVEM_DEFINITE, 100, 0, holed + 3, 1, counts + 1, 1), 4, FRATOLIVEM_AT, 0);
+    refused("gap", fratolivem_greedy(FRATOLIVEM_DEFINITE, 100, -1, holed, 2, counts + 1, 2), 5, FRATOLIVEM_CONTAINER, 0);
+    refused("room", fratolivem_greedy(FRATOLIVEM_DEFINITE, 100, 0, holed, 4, counts + 1, 3), 2, FRATOLIVEM_CONTAINER, 0);
+    refused("work", fratolivem_balanced(FRATOLIVEM_DEFINITE, 100, 0, 1, holed, 4, counts + 1, 4, work + 1, 27, sums + 1, 12), 2,
+            FRATOLIVEM_CONTAINER, 0);
+    refused("sums", fratolivem_balanced(FRATOLIVEM_DEFINITE, 100, 0, 1, holed, 4, counts + 1, 4, work + 1, 28, sums + 1, 11), 2,
+            FRATOLIVEM_CONTAINER, 0);
+    refused("kind", fratolivem_greedy(3, NAN, 0, holed, 2, counts + 1, 2), 5, FRATOLIVEM_CONTAINER, 0);
+
+    l = fratolivem_break_limit(1, 0, 1, FRATOLIVEM_DEFINITE, 200, 0, NAN, 1, 120);
+    expect(l.number == 0 && l.kind == FRATOLIVEM_DEFINITE && l.limit == 120.0f, "break limit");
+    l = fratolivem_break_limit(1, 0, 0, FRATOLIVEM_DEFINITE, 200, 0, NAN, 0, NAN);
+    expect(l.number == 0 && l.kind == FRATOLIVEM_MAX_CONTENT && l.limit == 0.0f, "break limit of a column");
+
+    printf("boundary in C: %d facts compared, %d differences\n", done, bad);
+    return bad ? 1 : 0;
+}

@@ -1,0 +1,123 @@
+/* Fratolivem: breaking items into lines, for C99 and C++17. C++ hosts may take fratolivem.hpp, which stands over this file.
+ *
+ * Any bits may be handed in: a call answers or refuses, and never goes wrong over a number. What a host must see to:
+ *  - a list is a pointer and a number of cells; a list of 0 cells may be NULL;
+ *  - the lists of one call do not overlap;
+ *  - the numbers of cells are true;
+ *  - floats are in the default mode: rounded to nearest, subnormals not flushed to zero (no FTZ or DAZ on the calling thread).
+ *
+ * Lengths are pixels, whole multiples of 1/64, of at most 262,144 px either way; -0.0 reads as 0, and no answer is -0.0.
+ * Sizes and limits may be negative, gaps may not. The sum over the items of (|size| + gap) is at most 262,144 px.
+ *
+ * On acceptance the first n cells of `counts` hold the lines' item counts, and 0 past the last line; cells past these n are unchanged.
+ * A refusal changes no lent cell.
+ */
+#ifndef FRATOLIVEM_H
+#define FRATOLIVEM_H
+
+#include <stddef.h>
+#include <stdint.h>
+
+#ifdef __cplusplus
+extern "C" {
+#endif
+
+/* Refusals, in the order in which they are looked for, each over the whole input: the container's numbers first, then the items'. */
+enum {
+    FRATOLIVEM_ACCEPTED = 0,
+    FRATOLIVEM_TOO_MANY_ITEMS = 1,  /* more than 1,024 in an input list; at the container */
+    FRATOLIVEM_TOO_LITTLE_ROOM = 2, /* a lent list is too short; at the container */
+    FRATOLIVEM_NOT_FINITE = 3,      /* a NaN or an infinity */
+    FRATOLIVEM_OFF_GRID = 4,        /* no whole multiple of 1/64 px */
+    FRATOLIVEM_OUT_OF_RANGE = 5,    /* a number, or a code that this file does not name */
+    FRATOLIVEM_SUM_TOO_LARGE = 6    /* at the container */
+};
+
+/* Where the number stands that a refusal is about. */
+enum {
+    FRATOLIVEM_NOWHERE = 0,   /* nothing is refused; `place` is 0 */
+    FRATOLIVEM_CONTAINER = 1, /* limit, gap, bounds, room or the list as a whole; `place` is 0 */
+    FRATOLIVEM_AT = 2         /* the item, line or byte `place`, counted from 0 */
+};
+
+/* Kinds of a limit or of available space. The number beside it is read only under DEFINITE, and not checked under another. */
+enum {
+    FRATOLIVEM_DEFINITE = 0,
+    FRATOLIVEM_MIN_CONTENT = 1, /* one item to each line */
+    FRATOLIVEM_MAX_CONTENT = 2  /* every line fits */
+};
+
+#define FRATOLIVEM_MOST_ITEMS 1024
+
+typedef struct {
+    uint32_t number; /* 0, or the refusal */
+    uint32_t where;
+    uint32_t place;
+    uint32_t lines;  /* 0 on refusal */
+    uint32_t rounds; /* 0 on refusal, and in calls that flex nothing */
+} fratolivem_answer;
+
+typedef struct {
+    uint32_t number;
+    uint32_t where;
+    uint32_t place;
+    uint32_t kind; /* of the limit; 0 on refusal */
+    float limit;   /* 0.0 unless the kind is DEFINITE */
+} fratolivem_limit;
+
+/* The limit that lines break against. Flags are 0 or 1. A bound whose flag is 0 is absent, and its number is not read. */
+fratolivem_limit fratolivem_break_limit(uint32_t known_is_definite, uint32_t main_is_definite, uint32_t is_row,
+                                        uint32_t available_kind, float available, uint32_t has_minimum, float minimum,
+                                        uint32_t has_maximum, float maximum);
+
+/* A line takes at least one item, then the next while the line with it fits. Room: n counts. */
+fratolivem_answer fratolivem_greedy(uint32_t limit_kind, float limit, float gap, const float *sizes, size_t n,
+                                    uint32_t *counts, size_t counts_len);
+
+/* Balanced breaking with its work cells as seven lists: opts n*n, the others n each. All are 0 after acceptance, as far as named. */
+fratolivem_answer fratolivem_balanced_parts(uint32_t limit_kind, float limit, float gap, uint32_t minimum,
+                                            const float *sizes, size_t n, uint32_t *counts, size_t counts_len,
+                                            uint32_t *opts, size_t opts_len, uint32_t *fit, size_t fit_len,
+                                            uint32_t *greedy, size_t greedy_len, uint32_t *reach, size_t reach_len,
+                                            double *sums, size_t sums_len, double *prev, size_t prev_len, double *cur,
+                                            size_t cur_len);
+
+/* The work cells that balanced breaking of n items asks for: none above 1,024 items, which are refused whatever is lent. */
+static inline size_t fratolivem_work_cells(size_t n) { return n > FRATOLIVEM_MOST_ITEMS ? 0 : n * n + 3 * n; }
+static inline size_t fratolivem_sum_cells(size_t n) { return n > FRATOLIVEM_MOST_ITEMS ? 0 : 3 * n; }
+
+/* Takes `want` cells, or what is left, off the front of a list. */
+static inline size_t fratolivem_cut(size_t *left, size_t want) {
+    size_t have = *left < want ? *left : want;
+    *left -= have;
+    return have;
+}
+
+/* Balanced breaking: as many lines as greedy breaking makes, or `minimum` held to 1..n if that is more, with the least sum of the
+ * lines' sizes squared, and of equal ones the larger count at the first difference. Negative sizes read as 0.
+ * Room: n counts, n*n + 3n cells of work and 3n of sums. Those work cells may hold any bits before and are 0 after acceptance.
+ *
+ * This only cuts the two lists into the parts of the call above, a short list into short parts: all checks are made there. */
+static inline fratolivem_answer fratolivem_balanced(uint32_t limit_kind, float limit, float gap, uint32_t minimum,
+                                                    const float *sizes, size_t n, uint32_t *counts, size_t counts_len,
+                                                    uint32_t *work, size_t work_len, double *sums, size_t sums_len) {
+    /* Above the most items no part is needed, since check 1 comes before check 2, and n*n might not be a size_t. */
+    const size_t m = n > FRATOLIVEM_MOST_ITEMS ? 0 : n;
+    size_t work_left = work_len, sums_left = sums_len;
+    const size_t opts_len = fratolivem_cut(&work_left, m * m), fit_len = fratolivem_cut(&work_left, m),
+                 greedy_len = fratolivem_cut(&work_left, m), reach_len = fratolivem_cut(&work_left, m);
+    const size_t add_len = fratolivem_cut(&sums_left, m), prev_len = fratolivem_cut(&sums_left, m),
+                 cur_len = fratolivem_cut(&sums_left, m);
+    /* A part that begins at cell 0 is the list itself: nothing is added to a NULL. */
+    uint32_t *fit = opts_len ? work + opts_len : work, *greedy = fit_len ? fit + fit_len : fit,
+             *reach = greedy_len ? greedy + greedy_len : greedy;
+    double *prev = add_len ? sums + add_len : sums, *cur = prev_len ? prev + prev_len : prev;
+    return fratolivem_balanced_parts(limit_kind, limit, gap, minimum, sizes, n, counts, counts_len, work, opts_len, fit,
+                                     fit_len, greedy, greedy_len, reach, reach_len, sums, add_len, prev, prev_len, cur,
+                                     cur_len);
+}
+
+#ifdef __cplusplus
+}
+#endif
+#endif
