@@ -7,3 +7,4 @@ pub mod Turns
 pub mod Whole
 pub mod Format
 pub mod Puts
+pub mod Answers

@@ -3,3 +3,4 @@ pub mod Reading
 pub mod Machine
 pub mod Written
 pub mod Text
+pub mod Answer

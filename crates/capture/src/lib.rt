@@ -1,8 +1,11 @@
 // Captures (document 01, "Records for the program"): from the bytes to the numbers, a burst at a time, and from the numbers to the answer.
+mod answering;
 mod feeding;
 mod record;
 mod text;
 
+pub use answering::answer;
+pub use answering::read;
 pub use feeding::feed;
 pub use feeding::finish;
 pub use feeding::start;
