@@ -45,8 +45,8 @@ pub record Roomy (l : Lent) : Type 0 where
 
 room-is : (n : ℕ) (l : Lent) → n ≤ 64 → Roomy l → hasRoom n l ≡ true
 room-is n l h r =
-    rw
-    (r .counts-room,
+    rw (
+      r .counts-room,
       r .opts-room,
       r .fit-room,
       r .greedy-room,
@@ -55,28 +55,30 @@ room-is n l h r =
       r .prev-room,
       r .cur-room,
       le-leb n 64 h,
-      le-leb (n * n) 4096 (mul-le-mul h h))
+      le-leb (n * n) 4096 (mul-le-mul h h),
+    )
 
 pub breaks : (head : Head) (sizes : List Float) (before after : Lent) (r : Answer) → length sizes ≤ 64 → Roomy before
     → BalancedCall (head .limit) (head .gap) (head .minimum) sizes before r after
     → ByVerdict (verdictOf head sizes) head sizes (before .counts) (replyOf r) (after .counts)
 breaks head sizes before after r few roomy call = go (verdictOf head sizes) refl
   where
-  same : balancedVerdict (head .limit) (head .gap) sizes before ≡ verdictOf head sizes
-  same = ap (breakingVerdict [] (head .limit) (head .gap) sizes) (room-is (length sizes) before few roomy)
-  go : (v : Verdict) → verdictOf head sizes ≡ v → ByVerdict v head sizes (before .counts) (replyOf r) (after .counts)
-  go (verdict.Refused why) e =
-      let x = call .refused why (same ∙ e) in
-      (ap replyOf (x .0), ap (λ (l : Lent). l .counts) (x .1))
-  go Passed e =
-      let x = call .accepted (same ∙ e) in
-      let d = x .2 in
-      record {
-        division = d .division;
-        balanced = d .balanced;
-        lines = ap replyOf (x .1) ∙ ap Lines (d .lines-are);
-        cells = ap (λ (l : Lent). l .counts) (d .cells);
-      }
+    same : balancedVerdict (head .limit) (head .gap) sizes before ≡ verdictOf head sizes
+    same = ap (breakingVerdict [] (head .limit) (head .gap) sizes) (room-is (length sizes) before few roomy)
+
+    go : (v : Verdict) → verdictOf head sizes ≡ v → ByVerdict v head sizes (before .counts) (replyOf r) (after .counts)
+    go (verdict.Refused why) e =
+        let x = call .refused why (same ∙ e) in
+        (ap replyOf (x .0), ap (λ (l : Lent). l .counts) (x .1))
+    go Passed e =
+        let x = call .accepted (same ∙ e) in
+        let d = x .2 in
+        record {
+          division = d .division;
+          balanced = d .balanced;
+          lines = ap replyOf (x .1) ∙ ap Lines (d .lines-are);
+          cells = ap (λ (l : Lent). l .counts) (d .cells);
+        }
 
 -- ---- the reader
 
@@ -87,22 +89,25 @@ module _ (before : List ℕ) (r : Reply) (after : List ℕ) where
   transfer (captured.Broken p) room (broken q) e a = let z : p ≡ q = cc in subst (λ (k : ℕ). Answered (broken k) before r after) z a
   transfer (Whole h n) room (whole g xs) e a = go (decLe n 64)
     where
-    heads : h ≡ g
-    heads = cc
-    many : n ≡ length xs
-    many = cc
-    kept : take n room ≡ take 64 xs
-    kept = cc
-    go : Dec (n ≤ 64) → ByCount (ltb 64 (length xs)) g xs before r after
-    go (yes few) =
-        let all : take n room ≡ xs = kept ∙ take-all 64 xs (omega (arith, many)) in
-        let b : ByVerdict (verdictOf h (take n room)) h (take n room) before r after = rw (le-ltb 64 n few) at a in
-        rw (sym many, le-ltb 64 n few)
-        (subst (λ (l : List Float). ByVerdict (verdictOf g l) g l before r after) all
-        (subst (λ (k : Head). ByVerdict (verdictOf k (take n room)) k (take n room) before r after) heads b))
-    go (no lots) =
-        let b : ByCount true h (take n room) before r after = rw (lt-ltb 64 n (omega arith)) at a in
-        rw (sym many, lt-ltb 64 n (omega arith)) b
+      heads : h ≡ g
+      heads = cc
+
+      many : n ≡ length xs
+      many = cc
+
+      kept : take n room ≡ take 64 xs
+      kept = cc
+
+      go : Dec (n ≤ 64) → ByCount (ltb 64 (length xs)) g xs before r after
+      go (yes few) =
+          let all : take n room ≡ xs = kept ∙ take-all 64 xs (omega (arith, many)) in
+          let b : ByVerdict (verdictOf h (take n room)) h (take n room) before r after = rw (le-ltb 64 n few) at a in
+          rw (sym many, le-ltb 64 n few)
+          (subst (λ (l : List Float). ByVerdict (verdictOf g l) g l before r after) all
+          (subst (λ (k : Head). ByVerdict (verdictOf k (take n room)) k (take n room) before r after) heads b))
+      go (no lots) =
+          let b : ByCount true h (take n room) before r after = rw (lt-ltb 64 n (omega arith)) at a in
+          rw (sym many, lt-ltb 64 n (omega arith)) b
 
 pub fed-full : {r : Reader} {sizes : List Float} (fd : Fed) (l : List ℕ) → length (fd .sizes) ≡ 64 → withSizes r sizes ≡ fed fd l → length sizes ≡ 64
 fed-full fd l full e = ap (λ (f : Fed). length (f .sizes)) e ∙ (fed-room l fd ∙ full)

@@ -36,12 +36,13 @@ items-complete place (n ∷ l) fit =
 pub complete : (c : Numbers) → Writable c → reading (written c) ≡ whole (headSaid c) (sizesSaid c)
 unfolding reading
 complete c fit =
-    rw
-    (f.first-head (written c) refl (fit .kind-is) (omega arith),
+    rw (
+      f.first-head (written c) refl (fit .kind-is) (omega arith),
       items-complete 12 (c .sizes) (fit .sizes-fit),
       four (c .limit) (fit .limit-fits),
       four (c .gap) (fit .gap-fits),
-      two (c .minimum) (fit .minimum-fits))
+      two (c .minimum) (fit .minimum-fits),
+    )
 
 -- ---- sound
 
@@ -62,14 +63,15 @@ four-back : (x y z w : ℕ) → Byte x → Byte y → Byte z → Byte w → byte
 four-back x y z w a b c d =
     let e : x + 256 * y + 65536 * (z + 256 * w) ≡ x + 256 * (y + 256 * (z + 256 * w)) = omega arith in
     ap (bytesOf 4) e
-    ∙ rw
-      (low x (y + 256 * (z + 256 * w)) a,
-        high x (y + 256 * (z + 256 * w)) a,
-        low y (z + 256 * w) b,
-        high y (z + 256 * w) b,
-        low z w c,
-        high z w c,
-        mod-eq-of-lt d)
+    ∙ rw (
+      low x (y + 256 * (z + 256 * w)) a,
+      high x (y + 256 * (z + 256 * w)) a,
+      low y (z + 256 * w) b,
+      high y (z + 256 * w) b,
+      low z w c,
+      high z w c,
+      mod-eq-of-lt d,
+    )
 
 -- the records from the first item on are items, and the end
 record Items (l : List ℕ) (xs : List Float) : Type 0 where
@@ -129,15 +131,16 @@ unfolding itemsOf
 items-sound zero place l xs b e = let z : _≡_ {A = ℕ} 0 1 = cc in absurd (omega arith)
 items-sound (suc n) place l xs b e = go (f.later-cases l) (λ ys w. items-sound n (place + 5) (drop 5 l) ys (drop-bytes 5 l b) w)
   where
-  by : (o : Parsed) → laterFront l ≡ o → byRecord o place (itemsOf n (place + 5) (drop 5 l)) (ending (place + 1) (drop 1 l)) ≡ sizes xs
-  by o w = sym (ap (λ (u : Parsed). byRecord u place (itemsOf n (place + 5) (drop 5 l)) (ending (place + 1) (drop 1 l))) w) ∙ e
-  go : f.Later l → ((ys : List Float) → itemsOf n (place + 5) (drop 5 l) ≡ sizes ys → Items (drop 5 l) ys) → Items l xs
-  go (f.Later.other h k) next = let y = by parsed.Broken (f.later-other l h k) in (let z : _≡_ {A = ℕ} 0 1 = cc in absurd (omega arith))
-  go (f.Later.cut k m) next = let y = by parsed.Partial (f.later-cut l k m) in (let z : _≡_ {A = ℕ} 0 1 = cc in absurd (omega arith))
-  go (f.Later.item k m) next =
-      let t = more-back (itemsOf n (place + 5) (drop 5 l)) (float l 1) xs (by (parsed.Item (float l 1)) (f.later-item l k m)) in
-      item-before l (five-of l m) b k t (next (t .others) (t .rest-is))
-  go (f.Later.end k) next = end-alone (place + 1) l xs k (by parsed.End (f.later-end l k))
+    by : (o : Parsed) → laterFront l ≡ o → byRecord o place (itemsOf n (place + 5) (drop 5 l)) (ending (place + 1) (drop 1 l)) ≡ sizes xs
+    by o w = sym (ap (λ (u : Parsed). byRecord u place (itemsOf n (place + 5) (drop 5 l)) (ending (place + 1) (drop 1 l))) w) ∙ e
+
+    go : f.Later l → ((ys : List Float) → itemsOf n (place + 5) (drop 5 l) ≡ sizes ys → Items (drop 5 l) ys) → Items l xs
+    go (f.Later.other h k) next = let y = by parsed.Broken (f.later-other l h k) in (let z : _≡_ {A = ℕ} 0 1 = cc in absurd (omega arith))
+    go (f.Later.cut k m) next = let y = by parsed.Partial (f.later-cut l k m) in (let z : _≡_ {A = ℕ} 0 1 = cc in absurd (omega arith))
+    go (f.Later.item k m) next =
+        let t = more-back (itemsOf n (place + 5) (drop 5 l)) (float l 1) xs (by (parsed.Item (float l 1)) (f.later-item l k m)) in
+        item-before l (five-of l m) b k t (next (t .others) (t .rest-is))
+    go (f.Later.end k) next = end-alone (place + 1) l xs k (by parsed.End (f.later-end l k))
 
 -- a capture of numbers that have room in their fields
 pub record Written (l : List ℕ) (h : Head) (xs : List Float) : Type 0 where
@@ -159,8 +162,8 @@ twelve-of [] n = absurd (omega arith)
 twelve-of (k ∷ []) n = absurd (omega arith)
 twelve-of (k ∷ (j ∷ l)) n = go l (five-of l (omega arith)) (omega arith)
   where
-  go : (m : List ℕ) → Five m → 10 ≤ length m → Twelve (k ∷ (j ∷ m))
-  go m (five a b c d e r) z = twelve k j a b c d e r (five-of r (omega arith))
+    go : (m : List ℕ) → Five m → 10 ≤ length m → Twelve (k ∷ (j ∷ m))
+    go m (five a b c d e r) z = twelve k j a b c d e r (five-of r (omega arith))
 
 head-before : (l : List ℕ) (xs : List Float) → Twelve l → All Byte l → kind l ≡ 1 → getD l 1 0 ≤ 2 → Items (drop 12 l) xs → Written l (headOf l) xs
 head-before l xs (twelve k j a b c d e m (five f' g h' p q r)) y one kinds i = record {
@@ -175,14 +178,14 @@ head-before l xs (twelve k j a b c d e m (five f' g h' p q r)) y one kinds i = r
   as-written =
       let o = itemBytes (i .bits) ++ (3 ∷ []) in
       let bits : k ∷ (j ∷ (a ∷ (b ∷ (c ∷ (d ∷ (e ∷ (f' ∷ (g ∷ (h' ∷ (p ∷ (q ∷ r)))))))))))
-          ≡ 1 ∷ (j ∷ (a ∷ (b ∷ (c ∷ (d ∷ (e ∷ (f' ∷ (g ∷ (h' ∷ (p ∷ (q ∷ o))))))))))) = cc (i .as-written) in
+      ≡ 1 ∷ (j ∷ (a ∷ (b ∷ (c ∷ (d ∷ (e ∷ (f' ∷ (g ∷ (h' ∷ (p ∷ (q ∷ o))))))))))) = cc (i .as-written) in
       bits
       ∙ (ap (λ (v : List ℕ). 1 ∷ (j ∷ (v ++ (e ∷ (f' ∷ (g ∷ (h' ∷ (p ∷ (q ∷ o)))))))))
-        (sym (four-back a b c d (y .1 .1 .0) (y .1 .1 .1 .0) (y .1 .1 .1 .1 .0) (y .1 .1 .1 .1 .1 .0)))
+      (sym (four-back a b c d (y .1 .1 .0) (y .1 .1 .1 .0) (y .1 .1 .1 .1 .0) (y .1 .1 .1 .1 .1 .0)))
       ∙ (ap (λ (v : List ℕ). 1 ∷ (j ∷ (bytesOf 4 (a + 256 * b + 65536 * (c + 256 * d)) ++ (v ++ (p ∷ (q ∷ o))))))
-        (sym (four-back e f' g h' (y .1 .1 .1 .1 .1 .1 .0) (y .1 .1 .1 .1 .1 .1 .1 .0) (y .1 .1 .1 .1 .1 .1 .1 .1 .0) (y .1 .1 .1 .1 .1 .1 .1 .1 .1 .0)))
+      (sym (four-back e f' g h' (y .1 .1 .1 .1 .1 .1 .0) (y .1 .1 .1 .1 .1 .1 .1 .0) (y .1 .1 .1 .1 .1 .1 .1 .1 .0) (y .1 .1 .1 .1 .1 .1 .1 .1 .1 .0)))
       ∙ ap (λ (v : List ℕ). 1 ∷ (j ∷ (bytesOf 4 (a + 256 * b + 65536 * (c + 256 * d)) ++ (bytesOf 4 (e + 256 * f' + 65536 * (g + 256 * h')) ++ (v ++ o)))))
-        (sym (two-back p q (y .1 .1 .1 .1 .1 .1 .1 .1 .1 .1 .0) (y .1 .1 .1 .1 .1 .1 .1 .1 .1 .1 .1 .0)))));
+      (sym (two-back p q (y .1 .1 .1 .1 .1 .1 .1 .1 .1 .1 .0) (y .1 .1 .1 .1 .1 .1 .1 .1 .1 .1 .1 .0)))));
   head-said = refl;
   sizes-said = i .said;
 }
@@ -191,13 +194,14 @@ pub sound : (l : List ℕ) (h : Head) (xs : List Float) → All Byte l → readi
 unfolding reading items
 sound l h xs b e = go (f.first-cases l)
   where
-  by : (o : Parsed) → firstFront l ≡ o → byHead o (items 12 (drop 12 l)) ≡ whole h xs
-  by o w = sym (ap (λ (u : Parsed). byHead u (items 12 (drop 12 l))) w) ∙ e
-  go : f.First l → Written l h xs
-  go (f.First.other k) = let y = by parsed.Broken (f.first-other l k) in (let z : _≡_ {A = ℕ} 0 1 = cc in absurd (omega arith))
-  go (f.First.bad k m) = let y = by parsed.Broken (f.first-bad l k m) in (let z : _≡_ {A = ℕ} 0 1 = cc in absurd (omega arith))
-  go (f.First.cut k m n) = let y = by parsed.Partial (f.first-cut l k m n) in (let z : _≡_ {A = ℕ} 0 1 = cc in absurd (omega arith))
-  go (f.First.whole k m n) =
-      let u = under-back (headOf l) h (items 12 (drop 12 l)) xs (by (parsed.Head (headOf l)) (f.first-head l k m n)) in
-      let i = items-sound (length (drop 12 l)) 12 (drop 12 l) xs (drop-bytes 12 l b) (u .1) in
-      subst (λ (g : Head). Written l g xs) (u .0) (head-before l xs (twelve-of l n) b k m i)
+    by : (o : Parsed) → firstFront l ≡ o → byHead o (items 12 (drop 12 l)) ≡ whole h xs
+    by o w = sym (ap (λ (u : Parsed). byHead u (items 12 (drop 12 l))) w) ∙ e
+
+    go : f.First l → Written l h xs
+    go (f.First.other k) = let y = by parsed.Broken (f.first-other l k) in (let z : _≡_ {A = ℕ} 0 1 = cc in absurd (omega arith))
+    go (f.First.bad k m) = let y = by parsed.Broken (f.first-bad l k m) in (let z : _≡_ {A = ℕ} 0 1 = cc in absurd (omega arith))
+    go (f.First.cut k m n) = let y = by parsed.Partial (f.first-cut l k m n) in (let z : _≡_ {A = ℕ} 0 1 = cc in absurd (omega arith))
+    go (f.First.whole k m n) =
+        let u = under-back (headOf l) h (items 12 (drop 12 l)) xs (by (parsed.Head (headOf l)) (f.first-head l k m n)) in
+        let i = items-sound (length (drop 12 l)) 12 (drop 12 l) xs (drop-bytes 12 l b) (u .1) in
+        subst (λ (g : Head). Written l g xs) (u .0) (head-before l xs (twelve-of l n) b k m i)

@@ -80,49 +80,49 @@ pub data Later (l : List ℕ) : Type 0 where
 pub first-cases : (l : List ℕ) → First l
 first-cases l = go (ℕ-discrete (kind l) 1) (decLe (getD l 1 0) 2) (decLe 12 (length l))
   where
-  go : Dec (kind l ≡ 1) → Dec (getD l 1 0 ≤ 2) → Dec (12 ≤ length l) → First l
-  go (no h) b c = First.other h
-  go (yes k) (no h) c = First.bad k (omega arith)
-  go (yes k) (yes h) (no n) = First.cut k h (omega arith)
-  go (yes k) (yes h) (yes n) = First.whole k h n
+    go : Dec (kind l ≡ 1) → Dec (getD l 1 0 ≤ 2) → Dec (12 ≤ length l) → First l
+    go (no h) b c = First.other h
+    go (yes k) (no h) c = First.bad k (omega arith)
+    go (yes k) (yes h) (no n) = First.cut k h (omega arith)
+    go (yes k) (yes h) (yes n) = First.whole k h n
 
 pub later-cases : (l : List ℕ) → Later l
 later-cases l = go (ℕ-discrete (kind l) 2) (ℕ-discrete (kind l) 3) (decLe 5 (length l))
   where
-  go : Dec (kind l ≡ 2) → Dec (kind l ≡ 3) → Dec (5 ≤ length l) → Later l
-  go (yes k) b (yes n) = Later.item k n
-  go (yes k) b (no n) = Later.cut k (omega arith)
-  go (no h) (yes k) c = Later.end k
-  go (no h) (no k) c = Later.other h k
+    go : Dec (kind l ≡ 2) → Dec (kind l ≡ 3) → Dec (5 ≤ length l) → Later l
+    go (yes k) b (yes n) = Later.item k n
+    go (yes k) b (no n) = Later.cut k (omega arith)
+    go (no h) (yes k) c = Later.end k
+    go (no h) (no k) c = Later.other h k
 
 -- ---- how long a record is
 
 pub first-partial : (l : List ℕ) → firstFront l ≡ Partial → length l < 12
 first-partial l e = go (first-cases l)
   where
-  go : First l → length l < 12
-  go (First.other h) = let z : Broken ≡ Partial = sym (first-other l h) ∙ e in (let w : _≡_ {A = ℕ} 0 1 = cc in absurd (omega arith))
-  go (First.bad k h) = let z : Broken ≡ Partial = sym (first-bad l k h) ∙ e in (let w : _≡_ {A = ℕ} 0 1 = cc in absurd (omega arith))
-  go (First.cut k h n) = n
-  go (First.whole k h n) = let z : Head (headOf l) ≡ Partial = sym (first-head l k h n) ∙ e in (let w : _≡_ {A = ℕ} 0 1 = cc in absurd (omega arith))
+    go : First l → length l < 12
+    go (First.other h) = let z : Broken ≡ Partial = sym (first-other l h) ∙ e in (let w : _≡_ {A = ℕ} 0 1 = cc in absurd (omega arith))
+    go (First.bad k h) = let z : Broken ≡ Partial = sym (first-bad l k h) ∙ e in (let w : _≡_ {A = ℕ} 0 1 = cc in absurd (omega arith))
+    go (First.cut k h n) = n
+    go (First.whole k h n) = let z : Head (headOf l) ≡ Partial = sym (first-head l k h n) ∙ e in (let w : _≡_ {A = ℕ} 0 1 = cc in absurd (omega arith))
 
 pub later-partial : (l : List ℕ) → laterFront l ≡ Partial → length l < 5
 later-partial l e = go (later-cases l)
   where
-  go : Later l → length l < 5
-  go (Later.other h k) = let z : Broken ≡ Partial = sym (later-other l h k) ∙ e in (let w : _≡_ {A = ℕ} 0 1 = cc in absurd (omega arith))
-  go (Later.cut k n) = n
-  go (Later.item k n) = let z : Item (float l 1) ≡ Partial = sym (later-item l k n) ∙ e in (let w : _≡_ {A = ℕ} 0 1 = cc in absurd (omega arith))
-  go (Later.end k) = let z : End ≡ Partial = sym (later-end l k) ∙ e in (let w : _≡_ {A = ℕ} 0 1 = cc in absurd (omega arith))
+    go : Later l → length l < 5
+    go (Later.other h k) = let z : Broken ≡ Partial = sym (later-other l h k) ∙ e in (let w : _≡_ {A = ℕ} 0 1 = cc in absurd (omega arith))
+    go (Later.cut k n) = n
+    go (Later.item k n) = let z : Item (float l 1) ≡ Partial = sym (later-item l k n) ∙ e in (let w : _≡_ {A = ℕ} 0 1 = cc in absurd (omega arith))
+    go (Later.end k) = let z : End ≡ Partial = sym (later-end l k) ∙ e in (let w : _≡_ {A = ℕ} 0 1 = cc in absurd (omega arith))
 
 pub later-not-end : (l : List ℕ) → kind l ≡ 2 → laterFront l ≡ End → ⊥
 later-not-end l k e = go (later-cases l)
   where
-  go : Later l → ⊥
-  go (Later.other h m) = h k
-  go (Later.cut m n) = let z : Partial ≡ End = sym (later-cut l m n) ∙ e in (let w : _≡_ {A = ℕ} 0 1 = cc in absurd (omega arith))
-  go (Later.item m n) = let z : Item (float l 1) ≡ End = sym (later-item l m n) ∙ e in (let w : _≡_ {A = ℕ} 0 1 = cc in absurd (omega arith))
-  go (Later.end m) = absurd (omega arith)
+    go : Later l → ⊥
+    go (Later.other h m) = h k
+    go (Later.cut m n) = let z : Partial ≡ End = sym (later-cut l m n) ∙ e in (let w : _≡_ {A = ℕ} 0 1 = cc in absurd (omega arith))
+    go (Later.item m n) = let z : Item (float l 1) ≡ End = sym (later-item l m n) ∙ e in (let w : _≡_ {A = ℕ} 0 1 = cc in absurd (omega arith))
+    go (Later.end m) = absurd (omega arith)
 
 -- ---- more bytes
 
@@ -136,9 +136,9 @@ module _ (l rest : List ℕ) where
   pub some : (k : ℕ) → kind l ≡ suc k → 0 < length l
   some k e = go l e
     where
-    go : (m : List ℕ) → kind m ≡ suc k → 0 < length m
-    go [] z = absurd (omega arith)
-    go (a ∷ m) z = omega arith
+      go : (m : List ℕ) → kind m ≡ suc k → 0 < length m
+      go [] z = absurd (omega arith)
+      go (a ∷ m) z = omega arith
 
   pub kind-still : (k : ℕ) → kind l ≡ suc k → kind (l ++ rest) ≡ suc k
   kind-still k e = at 0 (some k e) ∙ e
@@ -152,8 +152,8 @@ module _ (l rest : List ℕ) where
 
   same-head : 12 ≤ length l → headOf (l ++ rest) ≡ headOf l
   same-head n =
-      simp
-      (at 1 (omega arith),
+      simp (
+        at 1 (omega arith),
         at 2 (omega arith),
         at 3 (omega arith),
         at 4 (omega arith),
@@ -163,7 +163,8 @@ module _ (l rest : List ℕ) where
         at 8 (omega arith),
         at 9 (omega arith),
         at 10 (omega arith),
-        at 11 (omega arith))
+        at 11 (omega arith),
+      )
 
   same-float : 5 ≤ length l → float (l ++ rest) 1 ≡ float l 1
   same-float n = simp (at 1 (omega arith), at 2 (omega arith), at 3 (omega arith), at 4 (omega arith))

@@ -27,4 +27,4 @@ unfolding items itemsOf
 items-by place l =
     enough (length l) (suc (length l)) place l (omega arith) (omega arith)
     ∙ ap (λ (t : Rest). byRecord (laterFront l) place t (ending (place + 1) (drop 1 l)))
-      (enough (length l) (length (drop 5 l)) (place + 5) (drop 5 l) (omega (arith, length-drop 5 l)) (omega arith))
+    (enough (length l) (length (drop 5 l)) (place + 5) (drop 5 l) (omega (arith, length-drop 5 l)) (omega arith))

@@ -7,7 +7,7 @@ use native.Mathlib.Omega.{arith}
 use native.Mathlib.Numerals.{add-one}
 use native.Mathlib.Nat.{add-zero, add-assoc}
 use lib.Dec.{ltb}
-use lib.ListN.{length, getD, take, drop, set, length-append, length-set}
+use lib.ListN.{length, getD, take, drop, set, length-append, length-set, length-take}
 use lib.Seq.{take-suc-set, take-suc, take-all}
 use borrow.Author.Tests.{lt-ltb, le-ltb}
 use Rattle.refusal.specs.Domain.{whereOf}
@@ -38,12 +38,14 @@ put-next word before now at i h p room = record {
   as-long = both .as-long;
 }
   where
-  next : at + (i + 1) ≡ at + i + 1
-  next = omega arith
-  e : take (i + 1) word ≡ take i word ++ (getD word i 0 ∷ [])
-  e = rw add-one (take-suc word i 0 h)
-  both : Put (take i word ++ (getD word i 0 ∷ [])) before (set now (at + i) (getD word i 0)) at (at + i + 1)
-  both = put-more p (put-one (getD word i 0) (omega (arith, p .as-long)))
+    next : at + (i + 1) ≡ at + i + 1
+    next = omega arith
+
+    e : take (i + 1) word ≡ take i word ++ (getD word i 0 ∷ [])
+    e = rw add-one (take-suc word i 0 h)
+
+    both : Put (take i word ++ (getD word i 0 ∷ [])) before (set now (at + i) (getD word i 0)) at (at + i + 1)
+    both = put-more p (put-one (getD word i 0) (omega (arith, p .as-long)))
 
 pub at-start : (before : List ℕ) (at : ℕ) → Put [] before before at (at + 0)
 at-start before at = rw add-zero put-none
@@ -58,9 +60,9 @@ unfolding decimalTo
 places zero n = omega arith
 places (suc k) n = go (ltb n 10) (places k (n / 10))
   where
-  go : (t : Bool) → length (decimalTo k (n / 10)) ≤ k → length (cond t ((48 + n) ∷ []) (decimalTo k (n / 10) ++ ((48 + n % 10) ∷ []))) ≤ suc k
-  go true h = omega arith
-  go false h = omega (arith, length-append (decimalTo k (n / 10)) ((48 + n % 10) ∷ []))
+    go : (t : Bool) → length (decimalTo k (n / 10)) ≤ k → length (cond t ((48 + n) ∷ []) (decimalTo k (n / 10) ++ ((48 + n % 10) ∷ []))) ≤ suc k
+    go true h = omega arith
+    go false h = omega (arith, length-append (decimalTo k (n / 10)) ((48 + n % 10) ∷ []))
 
 pub decimal-none : (n : ℕ) → decimalTo 0 n ≡ []
 unfolding decimalTo
@@ -109,8 +111,8 @@ counted-next {counts} {before} {now} {after} {at} {next} {r} {i} c h p = record 
   short = omega (arith, c .short, p .past, places 20 (getD counts i 0));
 }
   where
-  e : take (i + 1) counts ≡ take i counts ++ (getD counts i 0 ∷ [])
-  e = rw add-one (take-suc counts i 0 h)
+    e : take (i + 1) counts ≡ take i counts ++ (getD counts i 0 ∷ [])
+    e = rw add-one (take-suc counts i 0 h)
 
 pub counted-all : {counts before now : List ℕ} {at next i : ℕ} → Counted counts before now at next i → length counts ≤ i → Put (spaced counts) before now at next
 counted-all {counts} {before} {now} {at} {next} {i} c h = subst (λ (l : List ℕ). Put (spaced l) before now at next) (take-all i counts h) (c .text)
@@ -127,3 +129,9 @@ spaced-short (suc n) (m ∷ l) =
 
 pub title-short : (n : ℕ) → length (titleText n) ≤ 42
 title-short n = omega (arith, length-append (decimal n) (10 ∷ counts-word), places 20 n)
+
+-- text that was put at the front is within the list
+pub within : {t before after : List ℕ} {n : ℕ} → Put t before after 0 n → n ≤ length after
+within {t} {before} {after} {n} p =
+    let e : length (take n after) ≡ length t = ap length (p .front) in
+    omega (arith, p .past, length-take n after)

@@ -64,13 +64,14 @@ take-more : (n : ℕ) (x : Float) (room xs : List Float) → length room ≡ 64
     → take 64 (take (n + 1) (cond (ltb n 64) (set room n x) room) ++ xs) ≡ take 64 (take n room ++ (x ∷ xs))
 take-more n x room xs e = go (decLe 64 n)
   where
-  few : n < 64 → take (n + 1) (cond (ltb n 64) (set room n x) room) ≡ take n room ++ (x ∷ [])
-  few h = rw (lt-ltb _ _ h, add-one) (take-suc-set room n x (omega arith))
-  go : Dec (64 ≤ n) → take 64 (take (n + 1) (cond (ltb n 64) (set room n x) room) ++ xs) ≡ take 64 (take n room ++ (x ∷ xs))
-  go (no h) = rw (few (omega arith), append-assoc)
-  go (yes h) =
-      rw (le-ltb _ _ h, take-all (n + 1) room (omega arith), take-all n room (omega arith))
-      (take-append-le 64 room xs (omega arith) ∙ sym (take-append-le 64 room (x ∷ xs) (omega arith)))
+    few : n < 64 → take (n + 1) (cond (ltb n 64) (set room n x) room) ≡ take n room ++ (x ∷ [])
+    few h = rw (lt-ltb _ _ h, add-one) (take-suc-set room n x (omega arith))
+
+    go : Dec (64 ≤ n) → take 64 (take (n + 1) (cond (ltb n 64) (set room n x) room) ++ xs) ≡ take 64 (take n room ++ (x ∷ xs))
+    go (no h) = rw (few (omega arith), append-assoc)
+    go (yes h) =
+        rw (le-ltb _ _ h, take-all (n + 1) room (omega arith), take-all n room (omega arith))
+        (take-append-le 64 room xs (omega arith) ∙ sym (take-append-le 64 room (x ∷ xs) (omega arith)))
 
 join-more : (h : Head) (n : ℕ) (x : Float) (room : List Float) (t : Rest) → length room ≡ 64
     → joined h (n + 1) (take (n + 1) (cond (ltb n 64) (set room n x) room)) t ≡ joined h n (take n room) (more x t)
@@ -87,34 +88,34 @@ module _ (place : ℕ) (q rest : List ℕ) (h : Head) (n : ℕ) (room : List Flo
   unfolding coming
   on-first short = go (f.first-cases q)
     where
-    go : f.First q → after (firstFront q) stage.First place q rest h n room ≡ coming stage.First place (q ++ rest) h n (take n room)
-    go (f.First.other k) = rw (f.first-other q k, f.first-still-other q rest some k)
-    go (f.First.bad k b) = rw (f.first-bad q k b, f.first-still-bad q rest k b)
-    go (f.First.cut k b m) = rw (f.first-cut q k b m)
-    go (f.First.whole k b m) =
-        rw (f.first-head q k b m, f.first-still-head q rest k b m, drop-at q rest 12 (omega arith))
+      go : f.First q → after (firstFront q) stage.First place q rest h n room ≡ coming stage.First place (q ++ rest) h n (take n room)
+      go (f.First.other k) = rw (f.first-other q k, f.first-still-other q rest some k)
+      go (f.First.bad k b) = rw (f.first-bad q k b, f.first-still-bad q rest k b)
+      go (f.First.cut k b m) = rw (f.first-cut q k b m)
+      go (f.First.whole k b m) =
+          rw (f.first-head q k b m, f.first-still-head q rest k b m, drop-at q rest 12 (omega arith))
 
   on-items : length q ≤ 5 → (laterFront q ≡ End → length q ≡ 1) → length room ≡ 64
       → after (laterFront q) stage.Items place q rest h n room ≡ coming stage.Items place (q ++ rest) h n (take n room)
   unfolding coming
   on-items short ends full = go (f.later-cases q)
     where
-    go : f.Later q → after (laterFront q) stage.Items place q rest h n room ≡ coming stage.Items place (q ++ rest) h n (take n room)
-    go (f.Later.other k m) = rw (items-by place (q ++ rest), f.later-other q k m, f.later-still-other q rest some k m)
-    go (f.Later.cut k m) = rw (f.later-cut q k m)
-    go (f.Later.item k m) =
-        rw (items-by place (q ++ rest), f.later-item q k m, f.later-still-item q rest k m, drop-at q rest 5 (omega arith))
-        (join-more h n (float q 1) room (items (place + 5) rest) full)
-    go (f.Later.end k) =
-        rw (items-by place (q ++ rest), f.later-end q k, f.later-still-end q rest k, drop-at q rest 1 (ends (f.later-end q k)))
+      go : f.Later q → after (laterFront q) stage.Items place q rest h n room ≡ coming stage.Items place (q ++ rest) h n (take n room)
+      go (f.Later.other k m) = rw (items-by place (q ++ rest), f.later-other q k m, f.later-still-other q rest some k m)
+      go (f.Later.cut k m) = rw (f.later-cut q k m)
+      go (f.Later.item k m) =
+          rw (items-by place (q ++ rest), f.later-item q k m, f.later-still-item q rest k m, drop-at q rest 5 (omega arith))
+          (join-more h n (float q 1) room (items (place + 5) rest) full)
+      go (f.Later.end k) =
+          rw (items-by place (q ++ rest), f.later-end q k, f.later-still-end q rest k, drop-at q rest 1 (ends (f.later-end q k)))
 
   on-ended : coming stage.Broken place rest h n (take n room) ≡ coming stage.Ended place (q ++ rest) h n (take n room)
   unfolding coming ending
   on-ended = go q some
     where
-    go : (l : List ℕ) → 0 < length l → broken place ≡ joined h n (take n room) (ending place (l ++ rest))
-    go [] z = absurd (omega arith)
-    go (b ∷ l) z = refl
+      go : (l : List ℕ) → 0 < length l → broken place ≡ joined h n (take n room) (ending place (l ++ rest))
+      go [] z = absurd (omega arith)
+      go (b ∷ l) z = refl
 
   on-broken : coming stage.Broken place rest h n (take n room) ≡ coming stage.Broken place (q ++ rest) h n (take n room)
   unfolding coming
@@ -137,13 +138,14 @@ end-at-once : (p : List ℕ) (b : ℕ) → Begun stage.Items p → laterFront (p
 end-at-once p b (inl e) z = simp length-append (omega arith)
 end-at-once p b (inr e) z = go (f.later-cases p)
   where
-  none : {o : Parsed} → laterFront p ≡ o → o ≡ Partial
-  none w = sym w ∙ e
-  go : f.Later p → length (p ++ (b ∷ [])) ≡ 1
-  go (f.Later.other k m) = let w : _≡_ {A = ℕ} 0 1 = cc (none (f.later-other p k m)) in absurd (omega arith)
-  go (f.Later.cut k m) = absurd (f.later-not-end (p ++ (b ∷ [])) (f.kind-still p (b ∷ []) 1 k) z)
-  go (f.Later.item k m) = let w : _≡_ {A = ℕ} 0 1 = cc (none (f.later-item p k m)) in absurd (omega arith)
-  go (f.Later.end k) = let w : _≡_ {A = ℕ} 0 1 = cc (none (f.later-end p k)) in absurd (omega arith)
+    none : {o : Parsed} → laterFront p ≡ o → o ≡ Partial
+    none w = sym w ∙ e
+
+    go : f.Later p → length (p ++ (b ∷ [])) ≡ 1
+    go (f.Later.other k m) = let w : _≡_ {A = ℕ} 0 1 = cc (none (f.later-other p k m)) in absurd (omega arith)
+    go (f.Later.cut k m) = absurd (f.later-not-end (p ++ (b ∷ [])) (f.kind-still p (b ∷ []) 1 k) z)
+    go (f.Later.item k m) = let w : _≡_ {A = ℕ} 0 1 = cc (none (f.later-item p k m)) in absurd (omega arith)
+    go (f.Later.end k) = let w : _≡_ {A = ℕ} 0 1 = cc (none (f.later-end p k)) in absurd (omega arith)
 
 longer : (p : List ℕ) (b : ℕ) → length (p ++ (b ∷ [])) ≡ length p + 1
 longer p b = simp length-append
@@ -176,9 +178,9 @@ module _ (r : Reader) (room : List Float) (bytes rest : List ℕ) where
 pub begun-of : (r : Reader) → Sound r → Begun (r .stage) (take (r .have) (r .pending))
 begun-of r s = go (s .midway)
   where
-  go : (r .have ≡ 0) ⊎ (front (r .stage) (take (r .have) (r .pending)) ≡ Partial) → Begun (r .stage) (take (r .have) (r .pending))
-  go (inl e) = inl (rw e)
-  go (inr e) = inr e
+    go : (r .have ≡ 0) ⊎ (front (r .stage) (take (r .have) (r .pending)) ≡ Partial) → Begun (r .stage) (take (r .have) (r .pending))
+    go (inl e) = inl (rw e)
+    go (inr e) = inr e
 
 pub step-resumes : (fd : Fed) (b : ℕ) (rest : List ℕ) → Sound (fd .reader) → length (fd .sizes) ≡ 64 → resume (stepped fd b) rest ≡ resume fd (b ∷ rest)
 unfolding resume

@@ -1,5 +1,5 @@
 -- What a sound reader's pending bytes are: fewer than 12, so that there is a cell for one more. Assumes nothing.
-use mathlib.Core.Path.{_≡_, refl, sym, _∙_}
+use mathlib.Core.Path.{_≡_, refl, sym, _∙_, subst}
 use mathlib.Core.Logic.{_⊎_, inl, inr}
 use mathlib.Core.List.{List, [], _∷_, _++_}
 use Prim.Native.Nat.{ℕ, suc, _+_, _<_, _≤_}
@@ -11,7 +11,7 @@ use lib.Ieee.{Float}
 use lib.Dec.{ltb}
 use mathlib.Core.Bool.{Bool, true, false, cond}
 use Rattle.capture.specs.Format.{front, firstFront, laterFront}
-use Rattle.capture.specs.Machine.{Fed, Sound, Ready, advanced, kept, stepped, fed}
+use Rattle.capture.specs.Machine.{Fed, Sound, Ready, advanced, kept, stepped, fed, withSizes}
 use Rattle.capture.specs.declared.Reader.{Reader}
 use Rattle.capture.specs.declared.Stage.{Stage}
 use Rattle.capture.specs.declared.Stage.the-variants.{First, Items, Ended, Broken}
@@ -31,11 +31,12 @@ begun Broken l e = let z : _≡_ {A = ℕ} 0 1 = cc in absurd (omega arith)
 pub within : {r : Reader} → Sound r → r .have < 12
 within {r} s = go (s .midway)
   where
-  short : length (take (r .have) (r .pending)) < 12 → r .have < 12
-  short h = omega (arith, length-take (r .have) (r .pending), s .cells)
-  go : (r .have ≡ 0) ⊎ (front (r .stage) (take (r .have) (r .pending)) ≡ Partial) → r .have < 12
-  go (inl e) = omega arith
-  go (inr e) = short (begun (r .stage) _ e)
+    short : length (take (r .have) (r .pending)) < 12 → r .have < 12
+    short h = omega (arith, length-take (r .have) (r .pending), s .cells)
+
+    go : (r .have ≡ 0) ⊎ (front (r .stage) (take (r .have) (r .pending)) ≡ Partial) → r .have < 12
+    go (inl e) = omega arith
+    go (inr e) = short (begun (r .stage) _ e)
 
 pub next-bytes : {r : Reader} (b : ℕ) → Sound r → take (r .have + 1) (set (r .pending) (r .have) b) ≡ take (r .have) (r .pending) ++ (b ∷ [])
 next-bytes {r} b s = rw add-one (take-suc-set (r .pending) (r .have) b (omega (arith, within s, s .cells)))
@@ -54,18 +55,18 @@ sizeOf parsed.End = 1
 sized : (s : Stage) (l : List ℕ) → 0 < length l → sizeOf (front s l) ≤ length l
 sized First l n = go (f.first-cases l)
   where
-  go : f.First l → sizeOf (firstFront l) ≤ length l
-  go (f.First.other k) = rw (f.first-other l k) (omega arith)
-  go (f.First.bad k b) = rw (f.first-bad l k b) (omega arith)
-  go (f.First.cut k b m) = rw (f.first-cut l k b m) (omega arith)
-  go (f.First.whole k b m) = rw (f.first-head l k b m) m
+    go : f.First l → sizeOf (firstFront l) ≤ length l
+    go (f.First.other k) = rw (f.first-other l k) (omega arith)
+    go (f.First.bad k b) = rw (f.first-bad l k b) (omega arith)
+    go (f.First.cut k b m) = rw (f.first-cut l k b m) (omega arith)
+    go (f.First.whole k b m) = rw (f.first-head l k b m) m
 sized Items l n = go (f.later-cases l)
   where
-  go : f.Later l → sizeOf (laterFront l) ≤ length l
-  go (f.Later.other k m) = rw (f.later-other l k m) (omega arith)
-  go (f.Later.cut k m) = rw (f.later-cut l k m) (omega arith)
-  go (f.Later.item k m) = rw (f.later-item l k m) m
-  go (f.Later.end k) = rw (f.later-end l k) n
+    go : f.Later l → sizeOf (laterFront l) ≤ length l
+    go (f.Later.other k m) = rw (f.later-other l k m) (omega arith)
+    go (f.Later.cut k m) = rw (f.later-cut l k m) (omega arith)
+    go (f.Later.item k m) = rw (f.later-item l k m) m
+    go (f.Later.end k) = rw (f.later-end l k) n
 sized Ended l n = omega arith
 sized Broken l n = omega arith
 
@@ -101,9 +102,9 @@ kept-length (parsed.Head h) i room = refl
 kept-length parsed.End i room = refl
 kept-length (parsed.Item x) i room = go (ltb i 64)
   where
-  go : (t : Bool) → length (cond t (set room i x) room) ≡ length room
-  go true = length-set room i x
-  go false = refl
+    go : (t : Bool) → length (cond t (set room i x) room) ≡ length room
+    go true = length-set room i x
+    go false = refl
 
 pub step-room : (fd : Fed) (b : ℕ) → length (stepped fd b .sizes) ≡ length (fd .sizes)
 step-room fd b =
@@ -124,3 +125,6 @@ pub fed-room : (l : List ℕ) (fd : Fed) → length (fed fd l .sizes) ≡ length
 unfolding fed
 fed-room [] fd = refl
 fed-room (b ∷ l) fd = fed-room l (stepped fd b) ∙ step-room fd b
+
+pub feed-ready : {r : Reader} {sizes : List Float} (fd : Fed) (l : List ℕ) (n : ℕ) → withSizes r sizes ≡ fed fd l → Ready (fd .reader) (length l + n) → Ready r n
+feed-ready fd l n e ready = subst (λ (f : Fed). Ready (f .reader) n) (sym e) (fed-ready l n fd ready)

@@ -38,22 +38,20 @@ fn break_items(head: Head, sizes: &[f32], counts: &mut [u32]) -> Reply
     let mut sums = [0.0f64; 64];
     let mut prev = [0.0f64; 64];
     let mut cur = [0.0f64; 64];
-    reply_of(
-        balance::balanced(
-            limit,
-            head.gap,
-            head.minimum,
-            sizes,
-            counts,
-            &mut opts,
-            &mut fit,
-            &mut greedy,
-            &mut reach,
-            &mut sums,
-            &mut prev,
-            &mut cur,
-        ),
-    )
+    reply_of(balance::balanced(
+        limit,
+        head.gap,
+        head.minimum,
+        sizes,
+        counts,
+        &mut opts,
+        &mut fit,
+        &mut greedy,
+        &mut reach,
+        &mut sums,
+        &mut prev,
+        &mut cur,
+    ))
 }
 
 // The sizes are the first of `items`, as many as are kept.

@@ -3,13 +3,13 @@ ghost use mathlib.Core.Path.{_≡_};
 ghost use Prim.Native.Nat.{_+_, _≤_, _^_};
 ghost use lib.ListN.{length};
 ghost use Rattle.capture.specs.Machine.{withSizes, advanced, kept, stepped, fed, started, finished, Ready};
-use breaking::AvailableSpace;
 use crate::Captured;
 use crate::Head;
 use crate::Parsed;
 use crate::Reader;
 use crate::Stage;
 use crate::record::parse;
+use breaking::AvailableSpace;
 
 pub fn start() -> Reader
     ensures { λ r. ⌜ r ≡ started ⌝ }

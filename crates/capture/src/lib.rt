@@ -6,12 +6,12 @@ mod text;
 
 pub use answering::answer;
 pub use answering::read;
+use breaking::AvailableSpace;
 pub use feeding::feed;
 pub use feeding::finish;
 pub use feeding::start;
-pub use text::spell;
-use breaking::AvailableSpace;
 use refusal::Refusal;
+pub use text::spell;
 
 // A record of kind 1: what the items are broken by.
 pub struct Head {

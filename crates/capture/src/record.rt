@@ -4,10 +4,10 @@ ghost use Prim.Native.Nat.{_+_, _≤_, _<_};
 ghost use lib.ListN.{length};
 ghost use lib.Ieee.{binary32, ofBits};
 ghost use Rattle.capture.specs.Format.{half, word, float, limitOf, headOf, firstFront, laterFront, front};
-use breaking::AvailableSpace;
 use crate::Head;
 use crate::Parsed;
 use crate::Stage;
+use breaking::AvailableSpace;
 
 fn half_at(bytes: &[u8], at: usize) -> u32
     requires { ⌜ at + 2 ≤ length (now bytes) ⌝ }

@@ -22,7 +22,7 @@ slice-aggregate-break-items c = sym (length-take-le _ _ (omega arith))
 
 -- src/answering.rt:67:5
 break-items-requires : tie.Need-break-items-requires
-break-items-requires c κs = 
+break-items-requires c κs =
     let a = c .before .before .before .before .before .args in
     (omega (arith, length-take (a .items) (now (a .sizes))), c .before .before .before .before .before .pre .1)
 

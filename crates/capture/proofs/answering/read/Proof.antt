@@ -35,7 +35,7 @@ answer-requires c κs = (fed-full _ _ refl (c .before .before .feed .ensures), s
 
 -- src/answering.rt:83:1
 returns : tie.Need-returns
-returns c = 
+returns c =
     let bytes = now (c .before .before .before .before .before .before .before .args .bytes) in
     let room = replicate 64 (ofBits binary32 0) in
     reads room bytes _ _ _ refl (omega arith)

@@ -120,7 +120,7 @@ put-places-put-byte-requires-2 : (t : ℕ) → put-places-lts.Need-put-byte-requ
   put-places-below t,
   put-places.Post,
 ) (put-places-at t) put-places.Post
-put-places-put-byte-requires-2 t c κs = 
+put-places-put-byte-requires-2 t c κs =
     let a = c .before .before .before .before .before .before .before .before .args in
     let e = c .before .before .before .put-places .ensures in
     omega (arith, e .past, e .as-long, places (a .places - 1) (a .n / 10))
@@ -141,7 +141,7 @@ put-places-returns-3 : (t : ℕ) → put-places-lts.Need-returns-3 (
   put-places-below t,
   put-places.Post,
 ) (put-places-at t) put-places.Post
-put-places-returns-3 t c = 
+put-places-returns-3 t c =
     number-more _ _ (omega arith) (omega arith) (c .before .before .before .before .before .before .put-places .ensures) (c .before .before .put-byte2 .ensures)
 
 pub +put-places-spec : {M : Type 1} → statement M

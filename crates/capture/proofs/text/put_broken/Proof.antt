@@ -20,7 +20,7 @@ put-number-requires c κs = search needs
 
 -- src/text.rt:111:5
 put-byte-requires : tie.Need-put-byte-requires
-put-byte-requires c κs = 
+put-byte-requires c κs =
     let p = c .before .before .before .put-number .ensures in
     let h = c .before .before .before .before .before .before .before .put-head .ensures in
     omega (arith, p .past, p .as-long, h .past, h .as-long, places 20 (c .before .before .before .before .before .before .before .before .before .before .args .offset))

@@ -29,7 +29,7 @@ shared-slice-read-put-count c = omega arith
 
 -- src/text.rt:70:9
 put-count-requires : tie.Need-put-count-requires Inv-loop μ-loop
-put-count-requires c κs = 
+put-count-requires c κs =
     let v = c .before .before .before .loop .inv in
     omega (arith, v .short, v .text .as-long)
 

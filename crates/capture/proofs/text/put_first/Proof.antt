@@ -17,7 +17,7 @@ slice-aggregate-put-counts c = sym (length-take-le _ _ (omega arith))
 
 -- src/text.rt:130:9
 put-counts-requires : tie.Need-put-counts-requires
-put-counts-requires c κs = 
+put-counts-requires c κs =
     let a = c .before .before .before .before .before .args in
     omega (arith, length-take (a .n) (now (a .counts)))
 

@@ -17,13 +17,13 @@ put-title-requires c κs = search needs
 
 -- src/text.rt:141:9
 put-first-requires : tie.Need-put-first-requires
-put-first-requires c κs = 
+put-first-requires c κs =
     let t = c .before .before .before .put-title .ensures in
     omega (arith, t .past, t .as-long, title-short (c .before .before .before .before .before .before .before .args .lines))
 
 -- src/text.rt:142:5
 put-byte-requires : tie.Need-put-byte-requires
-put-byte-requires c κs = 
+put-byte-requires c κs =
     let a = c .before .before .before .before .before .before .before .before .before .before .before .args in
     let f = c .before .before .before .put-first .ensures in
     let t = c .before .before .before .before .before .before .before .put-title .ensures in

@@ -27,7 +27,7 @@ slice-aggregate-put-2 c = search needs
 
 -- src/text.rt:121:5
 put-requires-2 : tie.Need-put-requires-2
-put-requires-2 c κs = 
+put-requires-2 c κs =
     let n = c .before .before .before .before .put-number .ensures in
     let p = c .before .before .before .before .before .before .before .before .put .ensures in
     omega (arith, n .past, n .as-long, p .past, p .as-long, places 20 (c .before .before .before .before .before .before .before .before .before .before .before .before .args .lines))
