@@ -14,7 +14,7 @@ struct Turn {
 }
 
 // Reads once and feeds what came. No bytes are the end of the input, or a read that failed.
-fn turn(reader: Reader, sizes: &mut [f32; 64]) -> Turn
+fn read_some(reader: Reader, sizes: &mut [f32; 64]) -> Turn
     requires { ⌜ Ready reader 65536 ⌝ }
     ensures { λ t. ⌜ Turned reader (now (sizes .entry)) t (now (sizes .exit)) ⌝ }
 {
@@ -43,7 +43,7 @@ fn main() {
     let mut reader = capture::start();
     let mut turns: u64 = 0x8000_0000_0000;
     while turns > 0 {
-        let t = turn(reader, &mut sizes);
+        let t = read_some(reader, &mut sizes);
         reader = t.reader;
         if t.bytes == 0 {
             turns = 0;
