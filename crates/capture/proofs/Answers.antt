@@ -1,14 +1,14 @@
 -- From the balanced call to the answer of a capture: there is room for 64 items, and a finished reader has the capture's numbers.
 -- Assumes nothing.
 use mathlib.Core.Path.{_≡_, refl, sym, _∙_, ap, subst}
-use mathlib.Core.Bool.{Bool, true, false, _&&_}
+use mathlib.Core.Bool.{true}
 use mathlib.Core.List.{List, []}
-use Prim.Native.Nat.{ℕ, _*_, _≤_, _<_, _^_}
+use Prim.Native.Nat.{ℕ, _*_, _≤_, _^_}
 use native.Mathlib.Nat.{mul-le-mul}
 use native.Mathlib.Omega.{arith}
 use native.Mathlib.Decide.{decLe}
 use borrow.Author.Tests.{le-leb, lt-ltb, le-ltb}
-use lib.Dec.{ltb, leb}
+use lib.Dec.{ltb}
 use lib.ListN.{length, take}
 use lib.Seq.{take-all}
 use lib.Ieee.{Float}
@@ -17,10 +17,10 @@ use Rattle.refusal.specs.declared.Verdict.the-variants.{Passed}
 use Rattle.refusal.specs.declared.Verdict.the-variants as verdict
 use Rattle.refusal.specs.declared.Answer.{Answer}
 use Rattle.breaking.specs.Calls.{breakingVerdict}
-use Rattle.balance.specs.Calls.{Lent, hasRoom, balancedVerdict, Divides, BalancedCall}
+use Rattle.balance.specs.Calls.{Lent, hasRoom, balancedVerdict, BalancedCall}
 use Rattle.capture.specs.Reading.{Reading, whole, broken, reading}
 use Rattle.capture.specs.Machine.{Fed, withSizes, fed, started, finished}
-use Rattle.capture.specs.Answer.{replyOf, verdictOf, Divided, Refuses, ByVerdict, ByCount, Answered, AnsweredTo}
+use Rattle.capture.specs.Answer.{replyOf, verdictOf, ByVerdict, ByCount, Answered, AnsweredTo}
 use Rattle.capture.specs.declared.Head.{Head}
 use Rattle.capture.specs.declared.Reader.{Reader}
 use Rattle.capture.specs.declared.Captured.{Captured}

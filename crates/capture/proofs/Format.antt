@@ -5,11 +5,11 @@ use mathlib.Core.List.{List, [], _∷_, _++_, map}
 use Prim.Native.Nat.{ℕ, zero, suc, _+_, _*_, _/_, _%_, _<_, _≤_, _^_}
 use native.Mathlib.Nat.{mod-eq-of-lt}
 use native.Mathlib.Omega.{arith}
-use lib.ListN.{length, getD, drop, length-append}
+use lib.ListN.{length, getD, drop}
 use lib.Ieee.{Float, binary32, ofBits}
-use Rattle.capture.specs.Format.{kind, half, word, float, headOf, firstFront, laterFront, limitOf}
-use Rattle.capture.specs.Reading.{Rest, sizes, faulty, more, byRecord, ending, itemsOf, items, Reading, whole, broken, under, byHead, reading}
-use Rattle.capture.specs.Written.{Numbers, All, Writable, bytesOf, headBytes, itemBytes, written, headSaid, sizesSaid}
+use Rattle.capture.specs.Format.{kind, half, word, float, headOf, firstFront, laterFront}
+use Rattle.capture.specs.Reading.{Rest, sizes, faulty, more, byRecord, ending, itemsOf, items, whole, under, byHead, reading}
+use Rattle.capture.specs.Written.{Numbers, All, Writable, bytesOf, itemBytes, written, headSaid, sizesSaid}
 use Rattle.capture.specs.declared.Head.{Head}
 use Rattle.capture.specs.declared.Parsed.{Parsed}
 use Rattle.capture.specs.declared.Parsed.the-variants as parsed

@@ -7,9 +7,8 @@ use lib.ListN.{length, getD, length-append, List·getD-append}
 use native.Mathlib.Decide.{ℕ-discrete, decLe}
 use borrow.Author.Tests.{eq-eqb, ne-eqb, le-leb, lt-leb}
 use native.Mathlib.Omega.{arith}
-use Rattle.capture.specs.Format.{limitOf, headOf, float, kind, firstFront, laterFront, front}
+use Rattle.capture.specs.Format.{limitOf, headOf, float, kind, firstFront, laterFront}
 use Rattle.breaking.specs.declared.AvailableSpace.the-variants.{MaxContent}
-use Rattle.capture.specs.declared.Parsed.{Parsed}
 use Rattle.capture.specs.declared.Parsed.the-variants.{Head, Item, End, Partial, Broken}
 
 pub above : (k : ℕ) (x : Float) → (k ≡ 0 → ⊥) → (k ≡ 1 → ⊥) → MaxContent ≡ limitOf k x

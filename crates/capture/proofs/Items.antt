@@ -1,14 +1,11 @@
 -- The items and the end, record by record: how many records are looked for does not matter, as there are no more than bytes. Assumes nothing.
-use mathlib.Core.Path.{_≡_, refl, sym, _∙_, ap}
-use mathlib.Core.List.{List, [], _∷_, _++_}
-use Prim.Native.Nat.{ℕ, zero, suc, _+_, _<_, _≤_}
+use mathlib.Core.Path.{_≡_, refl, _∙_, ap}
+use mathlib.Core.List.{List, [], _∷_}
+use Prim.Native.Nat.{ℕ, zero, suc, _+_, _≤_}
 use native.Mathlib.Omega.{arith}
 use lib.ListN.{length, drop, length-drop}
-use lib.Ieee.{Float}
 use Rattle.capture.specs.Format.{laterFront}
-use Rattle.capture.specs.Reading.{Rest, faulty, more, byRecord, ending, itemsOf, items}
-use Rattle.capture.specs.declared.Parsed.{Parsed}
-use Rattle.capture.specs.declared.Parsed.the-variants.{Item, End, Partial, Broken}
+use Rattle.capture.specs.Reading.{Rest, more, byRecord, ending, itemsOf, items}
 
 enough : (n m place : ℕ) (l : List ℕ) → length l ≤ n → length l ≤ m → itemsOf n place l ≡ itemsOf m place l
 unfolding itemsOf laterFront

@@ -1,20 +1,20 @@
 -- From any byte on, a sound reader goes on to say what the whole capture says: what is still to come of `reading` is a function of the
 -- reader and the bytes that follow, and a step leaves it as it is. So bursts make no difference. Assumes nothing.
 use mathlib.Core.Path.{_≡_, refl, sym, _∙_, ap}
-use mathlib.Core.Bool.{Bool, true, false, cond}
+use mathlib.Core.Bool.{cond}
 use mathlib.Core.Logic.{_⊎_, inl, inr}
 use mathlib.Core.List.{List, [], _∷_, _++_, append-assoc}
-use Prim.Native.Nat.{ℕ, zero, suc, _+_, _<_, _≤_}
+use Prim.Native.Nat.{ℕ, suc, _+_, _<_, _≤_}
 use native.Mathlib.Omega.{arith}
-use lib.ListN.{length, take, drop, set, length-append, length-set}
+use lib.ListN.{length, take, drop, set, length-append}
 use lib.Seq.{drop-at, take-suc-set, take-append-le, take-all}
 use native.Mathlib.Numerals.{add-one}
 use lib.Dec.{ltb}
 use native.Mathlib.Decide.{decLe}
 use borrow.Author.Tests.{lt-ltb, le-ltb}
 use lib.Ieee.{Float}
-use Rattle.capture.specs.Format.{front, firstFront, laterFront, headOf, float}
-use Rattle.capture.specs.Reading.{Rest, sizes, faulty, more, byRecord, ending, items}
+use Rattle.capture.specs.Format.{front, firstFront, laterFront, float}
+use Rattle.capture.specs.Reading.{Rest, sizes, faulty, more, ending, items}
 use Rattle.capture.specs.declared.Head.{Head}
 use Rattle.capture.specs.declared.Stage.{Stage}
 use Rattle.capture.specs.declared.Stage.the-variants as stage

@@ -1,15 +1,15 @@
 -- Started, fed with a whole capture and finished, a reader says what `reading` says of its bytes. Assumes nothing.
 use mathlib.Core.Path.{_≡_, refl, sym, _∙_, ap}
-use mathlib.Core.Logic.{_⊎_, inl, inr}
-use mathlib.Core.List.{List, [], _∷_, _++_, append-nil}
-use Prim.Native.Nat.{ℕ, zero, suc, _+_, _≤_, _^_}
+use mathlib.Core.Logic.{inl, inr}
+use mathlib.Core.List.{List, [], _∷_, append-nil}
+use Prim.Native.Nat.{ℕ, _+_, _≤_, _^_}
 use native.Mathlib.Nat.{add-zero, zero-add}
 use native.Mathlib.Omega.{arith}
-use lib.ListN.{length, take, drop, replicate, length-take}
+use lib.ListN.{length, take, drop, length-take}
 use lib.Seq.{take-all}
 use lib.Ieee.{Float}
-use Rattle.capture.specs.Format.{front, firstFront, laterFront}
-use Rattle.capture.specs.Reading.{Rest, sizes, faulty, ending, items, Reading, whole, broken, reading, under, byHead}
+use Rattle.capture.specs.Format.{firstFront, laterFront}
+use Rattle.capture.specs.Reading.{Rest, sizes, faulty, ending, items, Reading, whole, broken, reading, byHead}
 use Rattle.capture.specs.Machine.{Fed, withSizes, fed, started, finished, byStage, Sound, Ready}
 use Rattle.capture.specs.declared.Head.{Head}
 use Rattle.capture.specs.declared.Reader.{Reader}
@@ -23,7 +23,7 @@ use Rattle.capture.specs.declared.Parsed.the-variants.{Item, End, Partia
 use Rattle.capture.specs.declared.Parsed.the-variants as parsed
 use Rattle.capture.proofs.Items.{items-by}
 use Rattle.capture.proofs.Sound.{fed-ready, fed-room}
-use Rattle.capture.proofs.Resume.{Known, joined, firstly, coming, Begun, begun-of, resume, fed-resumes}
+use Rattle.capture.proofs.Resume.{Known, firstly, coming, Begun, begun-of, resume, fed-resumes}
 use Rattle.capture.proofs.Resume as resume
 
 -- what is kept of what a capture says

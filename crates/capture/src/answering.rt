@@ -80,6 +80,7 @@ pub fn answer(r: Reader, sizes: &[f32], counts: &mut [u32]) -> Reply
 // Reads a whole capture to its answer. Nothing is asked of the bytes.
 pub fn read(bytes: &[u8], counts: &mut [u32; 64]) -> Reply
     ensures { λ r. ⌜ Answered (reading (now (bytes .entry))) (now (counts .entry)) r (now (counts .exit)) ⌝ }
+    ensures { λ r. ⌜ length (now (counts .exit)) ≡ 64 ⌝ }
 {
     let mut sizes = [0.0f32; 64];
     let r = feed(start(), bytes, &mut sizes);

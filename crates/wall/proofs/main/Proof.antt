@@ -28,13 +28,15 @@ start-requires c κs = tt
 
 -- src/main.rt:45:5
 loop-holds : tie.Need-loop-holds Inv-loop μ-loop
-loop-holds c = 
-    (subst (λ (r : Reader). Ready r (65536 * 140737488355328)) (sym (c .start .ensures))
-    (record { sound = started-sound; room = omega arith }), refl)
+loop-holds c = (
+  subst (λ (r : Reader). Ready r (65536 * 140737488355328)) (sym (c .start .ensures))
+      (record { sound = started-sound; room = omega arith }),
+  refl,
+)
 
 -- src/main.rt:46:13
 read-some-requires : tie.Need-read-some-requires Inv-loop μ-loop
-read-some-requires c κs = 
+read-some-requires c κs =
     let t = c .before .before .loop .turns in
     ready-less 65536 (65536 * t) (omega arith) (c .before .before .loop .inv .0)
 
@@ -44,7 +46,7 @@ loop-less c = omega arith
 
 -- src/main.rt:45:5
 loop-again : tie.Need-loop-again Inv-loop μ-loop
-loop-again c = 
+loop-again c =
     let t = c .before .before .before .before .before .before .loop .turns in
     let e = c .before .before .before .read-some .ensures in
     let v = c .before .before .before .before .before .before .loop .inv in
@@ -60,7 +62,7 @@ loop-less-2 c = omega arith
 
 -- src/main.rt:45:5
 loop-again-2 : tie.Need-loop-again-2 Inv-loop μ-loop
-loop-again-2 c = 
+loop-again-2 c =
     let t = c .before .before .before .before .before .before .loop .turns in
     let e = c .before .before .before .read-some .ensures in
     let v = c .before .before .before .before .before .before .loop .inv in

@@ -50,7 +50,7 @@ feed-requires c κs = search needs
 
 -- src/main.rt:17:1
 returns : tie.Need-returns
-returns c = 
+returns c =
     let a = c .before .before .before .before .before .before .before .before .before .args in
     record {
       ready = λ n h. feed-ready (withSizes (a .reader) (now (a .sizes))) _ n (c .feed .ensures) (ready-less _ (65536 + n) (omega (arith, c .before .before .before .count .ensures .0 .0, c .before .before .before .count .ensures .0 .1)) h);

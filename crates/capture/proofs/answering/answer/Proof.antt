@@ -3,36 +3,25 @@ use mathlib.Core.Path.{refl, sym, _∙_}
 use borrow.Author.Needs.{needs}
 use Rattle.capture.proofs.answering.answer.Statement.{statement}
 use Rattle.capture.proofs.answering.answer.Tie as tie
-use Rattle.capture.proofs.answering.answer.Reads as reads
-use Rattle.capture.proofs.answering.answer.Lts as lts
-use Rattle.capture.proofs.answering.answer_items.Reads as answer-items-reads
-use Rattle.capture.proofs.feeding.finish.Reads as finish-reads
 
--- src/answering.rt:75:9
 finish-requires : tie.Need-finish-requires
 finish-requires c κs = search needs
 
--- src/answering.rt:77:26
 enum-known-said : tie.Need-enum-known-said
 enum-known-said c = search needs
 
--- src/answering.rt:78:27
 enum-known-said-2 : tie.Need-enum-known-said-2
 enum-known-said-2 c = search needs
 
--- src/answering.rt:78:44
 answer-items-requires : tie.Need-answer-items-requires
 answer-items-requires c κs = search needs
 
--- src/answering.rt:71:1
 returns : tie.Need-returns
 returns c = rw (sym (c .before .before .before .finish .ensures) ∙ c .before .said .given .1) (refl, refl)
 
--- src/answering.rt:71:1
 same-length : tie.Need-same-length
 same-length c = search needs
 
--- src/answering.rt:71:1
 returns-2 : tie.Need-returns-2
 returns-2 c = rw (sym (c .before .before .before .before .before .before .before .finish .ensures) ∙ c .before .before .before .before .before .said2 .given .1) (c .before .before .answer-items .ensures)
 

@@ -8,29 +8,21 @@ use denote.Ref.{now}
 use borrow.Author.Needs.{needs}
 use Rattle.capture.proofs.answering.answer_items.Statement.{statement}
 use Rattle.capture.proofs.answering.answer_items.Tie as tie
-use Rattle.capture.proofs.answering.answer_items.Reads as reads
-use Rattle.capture.proofs.answering.answer_items.Lts as lts
-use Rattle.capture.proofs.answering.break_items.Reads as break-items-reads
 
--- src/answering.rt:65:9
 returns : tie.Need-returns
 returns c = rw (lt-ltb _ _ (c .if1 .taken)) (refl, refl)
 
--- src/answering.rt:67:23
 slice-aggregate-break-items : tie.Need-slice-aggregate-break-items
 slice-aggregate-break-items c = sym (length-take-le _ _ (omega arith))
 
--- src/answering.rt:67:5
 break-items-requires : tie.Need-break-items-requires
 break-items-requires c κs =
     let a = c .before .before .before .before .before .args in
     (omega (arith, length-take (a .items) (now (a .sizes))), c .before .before .before .before .before .pre .1)
 
--- src/answering.rt:60:1
 same-length : tie.Need-same-length
 same-length c = search needs
 
--- src/answering.rt:60:1
 returns-2 : tie.Need-returns-2
 returns-2 c = rw (le-ltb _ _ (c .before .before .before .before .before .if1 .left)) (c .before .before .break-items .ensures)
 

@@ -9,52 +9,37 @@ use Rattle.capture.proofs.Answers.{breaks}
 use borrow.Author.Needs.{needs}
 use Rattle.capture.proofs.answering.break_items.Statement.{statement}
 use Rattle.capture.proofs.answering.break_items.Tie as tie
-use Rattle.capture.proofs.answering.break_items.Reads as reads
-use Rattle.capture.proofs.answering.break_items.Lts as lts
-use Rattle.balance.proofs.balanced.Reads as balanced-reads
-use Rattle.capture.proofs.answering.reply_of.Reads as reply-of-reads
 
--- src/answering.rt:48:13
 slice-aggregate-balanced : tie.Need-slice-aggregate-balanced
 slice-aggregate-balanced c = search needs
 
--- src/answering.rt:49:13
 slice-aggregate-balanced-2 : tie.Need-slice-aggregate-balanced-2
 slice-aggregate-balanced-2 c = search needs
 
--- src/answering.rt:50:13
 slice-aggregate-balanced-3 : tie.Need-slice-aggregate-balanced-3
 slice-aggregate-balanced-3 c = search needs
 
--- src/answering.rt:51:13
 slice-aggregate-balanced-4 : tie.Need-slice-aggregate-balanced-4
 slice-aggregate-balanced-4 c = search needs
 
--- src/answering.rt:52:13
 slice-aggregate-balanced-5 : tie.Need-slice-aggregate-balanced-5
 slice-aggregate-balanced-5 c = search needs
 
--- src/answering.rt:53:13
 slice-aggregate-balanced-6 : tie.Need-slice-aggregate-balanced-6
 slice-aggregate-balanced-6 c = search needs
 
--- src/answering.rt:54:13
 slice-aggregate-balanced-7 : tie.Need-slice-aggregate-balanced-7
 slice-aggregate-balanced-7 c = search needs
 
--- src/answering.rt:42:9
 balanced-requires : tie.Need-balanced-requires
 balanced-requires c κs = search needs
 
--- src/answering.rt:41:5
 reply-of-requires : tie.Need-reply-of-requires
 reply-of-requires c κs = search needs
 
--- src/answering.rt:29:1
 same-length : tie.Need-same-length
 same-length c = search needs
 
--- src/answering.rt:29:1
 returns : tie.Need-returns
 returns c =
     let a = c .before .before .before .before .before .before .before .before .before .before .before .before .before .before .before .before .before .before .before .before .before .args in

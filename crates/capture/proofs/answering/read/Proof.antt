@@ -1,5 +1,5 @@
 -- `capture::answering::read` meets its contract: a reader that was fed the whole capture says what `reading` says. Assumes nothing.
-use mathlib.Core.Path.{refl, sym, _∙_, ap, subst}
+use mathlib.Core.Path.{_≡_, refl, sym, _∙_, ap, subst}
 use native.Mathlib.Omega.{arith}
 use lib.ListN.{length, replicate}
 use lib.Ieee.{binary32, ofBits}
@@ -11,36 +11,31 @@ use Rattle.capture.proofs.Answers.{fed-full, reads}
 use borrow.Author.Needs.{needs}
 use Rattle.capture.proofs.answering.read.Statement.{statement}
 use Rattle.capture.proofs.answering.read.Tie as tie
-use Rattle.capture.proofs.answering.read.Reads as reads
-use Rattle.capture.proofs.answering.read.Lts as lts
-use Rattle.capture.proofs.answering.answer.Reads as answer-reads
-use Rattle.capture.proofs.feeding.feed.Reads as feed-reads
-use Rattle.capture.proofs.feeding.start.Reads as start-reads
 
--- src/answering.rt:87:18
 start-requires : tie.Need-start-requires
 start-requires c κs = search needs
 
--- src/answering.rt:87:9
 feed-requires : tie.Need-feed-requires
 feed-requires c κs = subst (λ (r : Reader). Ready r (length (now (c .before .before .before .args .bytes)))) (sym (c .before .start .ensures)) (record { sound = started-sound; room = omega arith })
 
--- src/answering.rt:88:15
 slice-aggregate-answer : tie.Need-slice-aggregate-answer
 slice-aggregate-answer c = sym (fed-full _ _ refl (c .before .feed .ensures))
 
--- src/answering.rt:88:5
 answer-requires : tie.Need-answer-requires
 answer-requires c κs = (fed-full _ _ refl (c .before .before .feed .ensures), search needs)
 
--- src/answering.rt:83:1
+full : (c : tie.After-answer) → length (now (c .before .before .before .before .before .before .before .args .counts)) ≡ 64
+full c = search needs
+
 returns : tie.Need-returns
 returns c =
     let bytes = now (c .before .before .before .before .before .before .before .args .bytes) in
-    let room = replicate 64 (ofBits binary32 0) in
-    reads room bytes _ _ _ refl (omega arith)
-    (c .before .before .before .feed .ensures ∙ ap (λ (r : Reader). fed (withSizes r room) bytes) (c .before .before .before .before .before .start .ensures))
-    (c .answer .ensures)
+    let room = replicate 64 (ofBits binary32 0) in (
+      reads room bytes _ _ _ refl (omega arith)
+          (c .before .before .before .feed .ensures ∙ ap (λ (r : Reader). fed (withSizes r room) bytes) (c .before .before .before .before .before .start .ensures))
+          (c .answer .ensures),
+      c .answer .kept .1 .1 .0 ∙ full c,
+    )
 
 pub read-spec : {M : Type 1} → statement M
 read-spec =

@@ -2,22 +2,16 @@
 use borrow.Author.Needs.{needs}
 use Rattle.capture.proofs.answering.reply_of.Statement.{statement}
 use Rattle.capture.proofs.answering.reply_of.Tie as tie
-use Rattle.capture.proofs.answering.reply_of.Reads as reads
-use Rattle.capture.proofs.answering.reply_of.Lts as lts
 
--- src/answering.rt:23:24
 enum-known-a : tie.Need-enum-known-a
 enum-known-a c = search needs
 
--- src/answering.rt:24:25
 enum-known-a-2 : tie.Need-enum-known-a-2
 enum-known-a-2 c = search needs
 
--- src/answering.rt:19:1
 returns : tie.Need-returns
 returns c = rw (c .before .a .given .1)
 
--- src/answering.rt:19:1
 returns-2 : tie.Need-returns-2
 returns-2 c = rw (c .before .a2 .given .1)
 

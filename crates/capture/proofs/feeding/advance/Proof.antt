@@ -1,66 +1,49 @@
 use borrow.Author.Needs.{needs}
 use Rattle.capture.proofs.feeding.advance.Statement.{statement}
 use Rattle.capture.proofs.feeding.advance.Tie as tie
-use Rattle.capture.proofs.feeding.advance.Reads as reads
-use Rattle.capture.proofs.feeding.advance.Lts as lts
 
--- src/lib.rt:188:19
 enum-told : tie.Need-enum-told
 enum-told c = search needs
 
--- src/lib.rt:188:19
 add-t8 : tie.Need-add-t8
 add-t8 c = search needs
 
--- src/lib.rt:194:20
 enum-told-2 : tie.Need-enum-told-2
 enum-told-2 c = search needs
 
--- src/lib.rt:201:22
 enum-known-found : tie.Need-enum-known-found
 enum-known-found c = search needs
 
--- src/lib.rt:203:20
 add-t11 : tie.Need-add-t11
 add-t11 c = search needs
 
--- src/lib.rt:210:20
 enum-told-3 : tie.Need-enum-told-3
 enum-told-3 c = search needs
 
--- src/lib.rt:211:20
 add-t13 : tie.Need-add-t13
 add-t13 c = search needs
 
--- src/lib.rt:215:20
 add-t14 : tie.Need-add-t14
 add-t14 c = search needs
 
--- src/lib.rt:218:20
 enum-told-4 : tie.Need-enum-told-4
 enum-told-4 c = search needs
 
--- src/lib.rt:219:20
 add-t16 : tie.Need-add-t16
 add-t16 c = search needs
 
--- src/lib.rt:178:1
 returns : tie.Need-returns
 returns c = cc
 
--- src/lib.rt:178:1
 returns-2 : tie.Need-returns-2
 returns-2 c = cc
 
--- src/lib.rt:178:1
 returns-3 : tie.Need-returns-3
 returns-3 c = cc
 
--- src/lib.rt:178:1
 returns-4 : tie.Need-returns-4
 returns-4 c = cc
 
--- src/lib.rt:178:1
 returns-5 : tie.Need-returns-5
 returns-5 c = cc
 

@@ -2,14 +2,10 @@
 use Prim.Native.Nat.{_-_}
 use native.Mathlib.Omega.{arith}
 use lib.ListN.{length}
-use denote.Ref.{now}
 use Rattle.capture.specs.Machine.{withSizes, fed}
 use Rattle.capture.proofs.Turns.{Turn, begin, can-step, turn, done}
 use Rattle.capture.proofs.feeding.feed.Statement.{statement}
 use Rattle.capture.proofs.feeding.feed.Tie as tie
-use Rattle.capture.proofs.feeding.feed.Reads as reads
-use Rattle.capture.proofs.feeding.feed.Lts as lts
-use Rattle.capture.proofs.feeding.step.Reads as step-reads
 
 abbrev Inv-loop : tie.InvT-loop
 Inv-loop burst sizes₀ r₀ i₀ sizes r i = Turn burst (fed (withSizes r₀ sizes₀) burst) sizes r i

@@ -3,18 +3,13 @@ use borrow.Author.Tests.{lt-ltb, le-ltb}
 use borrow.Author.Needs.{needs}
 use Rattle.capture.proofs.feeding.keep.Statement.{statement}
 use Rattle.capture.proofs.feeding.keep.Tie as tie
-use Rattle.capture.proofs.feeding.keep.Reads as reads
-use Rattle.capture.proofs.feeding.keep.Lts as lts
 
--- src/lib.rt:232:22
 enum-known-found : tie.Need-enum-known-found
 enum-known-found c = search needs
 
--- src/lib.rt:234:17
 mul-sizes : tie.Need-mul-sizes
 mul-sizes c = search needs
 
--- src/lib.rt:234:17
 element-write-sizes : tie.Need-element-write-sizes
 element-write-sizes c = search needs
 
@@ -30,27 +25,21 @@ enum-told-3 c = search needs
 enum-told-4 : tie.Need-enum-told-4
 enum-told-4 c = search needs
 
--- src/lib.rt:228:1
 returns : tie.Need-returns
 returns c = rw (c .before .before .found .given .1, lt-ltb _ _ (c .if1 .taken))
 
--- src/lib.rt:228:1
 returns-2 : tie.Need-returns-2
 returns-2 c = rw (c .before .before .found .given .1, le-ltb _ _ (c .if1 .left))
 
--- src/lib.rt:228:1
 returns-3 : tie.Need-returns-3
 returns-3 c = search needs
 
--- src/lib.rt:228:1
 returns-4 : tie.Need-returns-4
 returns-4 c = search needs
 
--- src/lib.rt:228:1
 returns-5 : tie.Need-returns-5
 returns-5 c = search needs
 
--- src/lib.rt:228:1
 returns-6 : tie.Need-returns-6
 returns-6 c = search needs
 

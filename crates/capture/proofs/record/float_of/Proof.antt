@@ -3,18 +3,13 @@ use Rattle.capture.proofs.Nan.{finite-bits, nan-bits}
 use borrow.Author.Needs.{needs}
 use Rattle.capture.proofs.record.float_of.Statement.{statement}
 use Rattle.capture.proofs.record.float_of.Tie as tie
-use Rattle.capture.proofs.record.float_of.Reads as reads
-use Rattle.capture.proofs.record.float_of.Lts as lts
 
--- src/lib.rt:62:9
 float-from-bits-result : tie.Need-float-from-bits-result
 float-from-bits-result c = finite-bits _ (c .if1 .left)
 
--- src/lib.rt:56:1
 returns : tie.Need-returns
 returns c = nan-bits _ (c .if1 .taken)
 
--- src/lib.rt:56:1
 returns-2 : tie.Need-returns-2
 returns-2 c = search needs
 

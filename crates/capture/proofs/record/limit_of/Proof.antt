@@ -3,18 +3,13 @@ use Rattle.capture.proofs.Front.{above}
 use borrow.Author.Needs.{needs}
 use Rattle.capture.proofs.record.limit_of.Statement.{statement}
 use Rattle.capture.proofs.record.limit_of.Tie as tie
-use Rattle.capture.proofs.record.limit_of.Reads as reads
-use Rattle.capture.proofs.record.limit_of.Lts as lts
 
--- src/lib.rt:77:9
 returns : tie.Need-returns
 returns c = rw (c .if1 .taken)
 
--- src/lib.rt:73:1
 returns-2 : tie.Need-returns-2
 returns-2 c = search needs
 
--- src/lib.rt:73:1
 returns-3 : tie.Need-returns-3
 returns-3 c = above _ _ (c .before .if1 .left) (c .if2 .left)
 

@@ -2,48 +2,34 @@
 use borrow.Author.Needs.{needs}
 use Rattle.capture.proofs.record.parse.Statement.{statement}
 use Rattle.capture.proofs.record.parse.Tie as tie
-use Rattle.capture.proofs.record.parse.Reads as reads
-use Rattle.capture.proofs.record.parse.Lts as lts
-use Rattle.capture.proofs.record.parse_first.Reads as parse-first-reads
-use Rattle.capture.proofs.record.parse_later.Reads as parse-later-reads
 
--- src/lib.rt:140:25
 enum-told : tie.Need-enum-told
 enum-told c = search needs
 
--- src/lib.rt:140:25
 parse-first-requires : tie.Need-parse-first-requires
 parse-first-requires c κs = search needs
 
--- src/lib.rt:141:25
 enum-told-2 : tie.Need-enum-told-2
 enum-told-2 c = search needs
 
--- src/lib.rt:141:25
 parse-later-requires : tie.Need-parse-later-requires
 parse-later-requires c κs = search needs
 
--- src/lib.rt:142:25
 enum-told-3 : tie.Need-enum-told-3
 enum-told-3 c = search needs
 
--- src/lib.rt:143:26
 enum-told-4 : tie.Need-enum-told-4
 enum-told-4 c = search needs
 
--- src/lib.rt:135:1
 returns : tie.Need-returns
 returns c = cc
 
--- src/lib.rt:135:1
 returns-2 : tie.Need-returns-2
 returns-2 c = cc
 
--- src/lib.rt:135:1
 returns-3 : tie.Need-returns-3
 returns-3 c = search needs
 
--- src/lib.rt:135:1
 returns-4 : tie.Need-returns-4
 returns-4 c = search needs
 

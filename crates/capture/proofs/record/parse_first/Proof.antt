@@ -5,39 +5,28 @@ use Rattle.capture.proofs.Front.{first-other, first-short, first-bad, f
 use borrow.Author.Needs.{needs}
 use Rattle.capture.proofs.record.parse_first.Statement.{statement}
 use Rattle.capture.proofs.record.parse_first.Tie as tie
-use Rattle.capture.proofs.record.parse_first.Reads as reads
-use Rattle.capture.proofs.record.parse_first.Lts as lts
-use Rattle.capture.proofs.record.head_of.Reads as head-of-reads
 
--- src/lib.rt:102:8
 shared-slice-read-if1 : tie.Need-shared-slice-read-if1
 shared-slice-read-if1 c = search needs
 
--- src/lib.rt:103:9
 returns : tie.Need-returns
 returns c = sym (first-other _ (c .if1 .taken))
 
--- src/lib.rt:106:9
 returns-2 : tie.Need-returns-2
 returns-2 c = sym (first-short _ (c .before .if1 .left) (c .if2 .taken))
 
--- src/lib.rt:108:12
 shared-slice-read-if3 : tie.Need-shared-slice-read-if3
 shared-slice-read-if3 c = search needs
 
--- src/lib.rt:109:9
 returns-3 : tie.Need-returns-3
 returns-3 c = sym (first-bad _ (c .before .before .before .if1 .left) (c .if3 .taken))
 
--- src/lib.rt:112:9
 returns-4 : tie.Need-returns-4
 returns-4 c = sym (first-cut _ (c .before .before .before .before .if1 .left) (c .before .if3 .left) (c .if4 .taken))
 
--- src/lib.rt:114:18
 head-of-requires : tie.Need-head-of-requires
 head-of-requires c κs = search needs
 
--- src/lib.rt:98:1
 returns-5 : tie.Need-returns-5
 returns-5 c =
     ap Head (c .head-of .ensures) ∙ sym (first-head _ (c .before .before .before .before .before .if1 .left) (c .before .before .if3 .left) (c .before .if4 .left))

@@ -5,35 +5,25 @@ use Rattle.capture.proofs.Front.{later-cut, later-item, later-end, late
 use borrow.Author.Needs.{needs}
 use Rattle.capture.proofs.record.parse_later.Statement.{statement}
 use Rattle.capture.proofs.record.parse_later.Tie as tie
-use Rattle.capture.proofs.record.parse_later.Reads as reads
-use Rattle.capture.proofs.record.parse_later.Lts as lts
-use Rattle.capture.proofs.record.float_at.Reads as float-at-reads
 
--- src/lib.rt:121:8
 shared-slice-read-if1 : tie.Need-shared-slice-read-if1
 shared-slice-read-if1 c = search needs
 
--- src/lib.rt:123:13
 returns : tie.Need-returns
 returns c = sym (later-cut _ (c .before .if1 .taken) (c .if2 .taken))
 
--- src/lib.rt:125:29
 float-at-requires : tie.Need-float-at-requires
 float-at-requires c κs = search needs
 
--- src/lib.rt:125:9
 returns-2 : tie.Need-returns-2
 returns-2 c = ap Item (c .float-at .ensures) ∙ sym (later-item _ (c .before .before .if1 .taken) (c .before .if2 .left))
 
--- src/lib.rt:127:8
 shared-slice-read-if3 : tie.Need-shared-slice-read-if3
 shared-slice-read-if3 c = search needs
 
--- src/lib.rt:117:1
 returns-3 : tie.Need-returns-3
 returns-3 c = sym (later-end _ (c .if3 .taken))
 
--- src/lib.rt:117:1
 returns-4 : tie.Need-returns-4
 returns-4 c = sym (later-other _ (c .before .before .if1 .left) (c .if3 .left))
 

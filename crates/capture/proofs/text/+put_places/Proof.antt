@@ -23,7 +23,6 @@ abbrev put-places-below : ℕ → In 1 put-places-kinds.ps
 put-places-below t =
     and 1 put-places-kinds.ps (falls 1 put-places-kinds.ps _<_ μ-put-places t) put-places.Pre
 
--- src/text.rt:37:9
 put-places-returns : (t : ℕ) → put-places-lts.Need-returns (
   put-byte-reads.Asked,
   put-byte-reads.Learnt,
@@ -32,7 +31,6 @@ put-places-returns : (t : ℕ) → put-places-lts.Need-returns (
 ) (put-places-at t) put-places.Post
 put-places-returns t c = number-none _ _ (c .if1 .taken)
 
--- src/text.rt:40:30
 put-places-cast-put-byte : (t : ℕ) → put-places-lts.Need-cast-put-byte (
   put-byte-reads.Asked,
   put-byte-reads.Learnt,
@@ -41,7 +39,6 @@ put-places-cast-put-byte : (t : ℕ) → put-places-lts.Need-cast-put-byte (
 ) (put-places-at t) put-places.Post
 put-places-cast-put-byte t c = omega arith
 
--- src/text.rt:40:25
 put-places-add-put-byte : (t : ℕ) → put-places-lts.Need-add-put-byte (
   put-byte-reads.Asked,
   put-byte-reads.Learnt,
@@ -50,7 +47,6 @@ put-places-add-put-byte : (t : ℕ) → put-places-lts.Need-add-put-byte (
 ) (put-places-at t) put-places.Post
 put-places-add-put-byte t c = omega arith
 
--- src/text.rt:40:9
 put-places-put-byte-requires : (t : ℕ) → put-places-lts.Need-put-byte-requires (
   put-byte-reads.Asked,
   put-byte-reads.Learnt,
@@ -59,7 +55,6 @@ put-places-put-byte-requires : (t : ℕ) → put-places-lts.Need-put-byte-requir
 ) (put-places-at t) put-places.Post
 put-places-put-byte-requires t c κs = omega arith
 
--- src/text.rt:40:9
 put-places-same-length : (t : ℕ) → put-places-lts.Need-same-length (
   put-byte-reads.Asked,
   put-byte-reads.Learnt,
@@ -68,7 +63,6 @@ put-places-same-length : (t : ℕ) → put-places-lts.Need-same-length (
 ) (put-places-at t) put-places.Post
 put-places-same-length t c = c .before .before .put-byte .ensures .as-long
 
--- src/text.rt:40:9
 put-places-returns-2 : (t : ℕ) → put-places-lts.Need-returns-2 (
   put-byte-reads.Asked,
   put-byte-reads.Learnt,
@@ -77,7 +71,6 @@ put-places-returns-2 : (t : ℕ) → put-places-lts.Need-returns-2 (
 ) (put-places-at t) put-places.Post
 put-places-returns-2 t c = number-one _ _ (omega (arith, c .before .before .before .before .before .if1 .left)) (c .before .before .before .before .if2 .taken) (c .before .before .put-byte .ensures)
 
--- src/text.rt:42:27
 put-places-sub-put-places : (t : ℕ) → put-places-lts.Need-sub-put-places (
   put-byte-reads.Asked,
   put-byte-reads.Learnt,
@@ -86,7 +79,6 @@ put-places-sub-put-places : (t : ℕ) → put-places-lts.Need-sub-put-places (
 ) (put-places-at t) put-places.Post
 put-places-sub-put-places t c = omega arith
 
--- src/text.rt:42:9
 put-places-put-places-requires : (t : ℕ) → put-places-lts.Need-put-places-requires (
   put-byte-reads.Asked,
   put-byte-reads.Learnt,
@@ -95,7 +87,6 @@ put-places-put-places-requires : (t : ℕ) → put-places-lts.Need-put-places-re
 ) (put-places-at t) put-places.Post
 put-places-put-places-requires t c κs = (omega arith, omega arith)
 
--- src/text.rt:43:19
 put-places-cast-put-byte-2 : (t : ℕ) → put-places-lts.Need-cast-put-byte-2 (
   put-byte-reads.Asked,
   put-byte-reads.Learnt,
@@ -104,7 +95,6 @@ put-places-cast-put-byte-2 : (t : ℕ) → put-places-lts.Need-cast-put-byte-2 (
 ) (put-places-at t) put-places.Post
 put-places-cast-put-byte-2 t c = omega arith
 
--- src/text.rt:43:14
 put-places-add-put-byte-2 : (t : ℕ) → put-places-lts.Need-add-put-byte-2 (
   put-byte-reads.Asked,
   put-byte-reads.Learnt,
@@ -113,7 +103,6 @@ put-places-add-put-byte-2 : (t : ℕ) → put-places-lts.Need-add-put-byte-2 (
 ) (put-places-at t) put-places.Post
 put-places-add-put-byte-2 t c = omega arith
 
--- src/text.rt:43:5
 put-places-put-byte-requires-2 : (t : ℕ) → put-places-lts.Need-put-byte-requires-2 (
   put-byte-reads.Asked,
   put-byte-reads.Learnt,
@@ -125,7 +114,6 @@ put-places-put-byte-requires-2 t c κs =
     let e = c .before .before .before .put-places .ensures in
     omega (arith, e .past, e .as-long, places (a .places - 1) (a .n / 10))
 
--- src/text.rt:32:1
 put-places-same-length-2 : (t : ℕ) → put-places-lts.Need-same-length-2 (
   put-byte-reads.Asked,
   put-byte-reads.Learnt,
@@ -134,7 +122,6 @@ put-places-same-length-2 : (t : ℕ) → put-places-lts.Need-same-length-2 (
 ) (put-places-at t) put-places.Post
 put-places-same-length-2 t c = c .before .before .put-byte2 .ensures .as-long ∙ c .before .before .before .before .before .before .put-places .ensures .as-long
 
--- src/text.rt:32:1
 put-places-returns-3 : (t : ℕ) → put-places-lts.Need-returns-3 (
   put-byte-reads.Asked,
   put-byte-reads.Learnt,

@@ -4,32 +4,22 @@ use Rattle.capture.proofs.Puts.{put-more, places}
 use borrow.Author.Needs.{needs}
 use Rattle.capture.proofs.text.put_broken.Statement.{statement}
 use Rattle.capture.proofs.text.put_broken.Tie as tie
-use Rattle.capture.proofs.text.put_broken.Reads as reads
-use Rattle.capture.proofs.text.put_broken.Lts as lts
-use Rattle.capture.proofs.text.put_byte.Reads as put-byte-reads
-use Rattle.capture.proofs.text.put_head.Reads as put-head-reads
-use Rattle.capture.proofs.text.put_number.Reads as put-number-reads
 
--- src/text.rt:109:9
 put-head-requires : tie.Need-put-head-requires
 put-head-requires c κs = search needs
 
--- src/text.rt:110:9
 put-number-requires : tie.Need-put-number-requires
 put-number-requires c κs = search needs
 
--- src/text.rt:111:5
 put-byte-requires : tie.Need-put-byte-requires
 put-byte-requires c κs =
     let p = c .before .before .before .put-number .ensures in
     let h = c .before .before .before .before .before .before .before .put-head .ensures in
     omega (arith, p .past, p .as-long, h .past, h .as-long, places 20 (c .before .before .before .before .before .before .before .before .before .before .args .offset))
 
--- src/text.rt:105:1
 same-length : tie.Need-same-length
 same-length c = search needs
 
--- src/text.rt:105:1
 returns : tie.Need-returns
 returns c = put-more (c .before .before .before .before .before .before .before .before .before .before .put-head .ensures) (put-more (c .before .before .before .before .before .before .put-number .ensures) (c .before .before .put-byte .ensures))
 

@@ -5,9 +5,6 @@ use lib.ListN.{length}
 use Rattle.capture.proofs.Puts.{Counted, counted-none, counted-next, counted-all}
 use Rattle.capture.proofs.text.put_counts.Statement.{statement}
 use Rattle.capture.proofs.text.put_counts.Tie as tie
-use Rattle.capture.proofs.text.put_counts.Reads as reads
-use Rattle.capture.proofs.text.put_counts.Lts as lts
-use Rattle.capture.proofs.text.put_count.Reads as put-count-reads
 
 abbrev Inv-loop : tie.InvT-loop
 Inv-loop counts out₀ at next₀ i₀ out next i = Counted counts out₀ out at next i
@@ -15,41 +12,32 @@ Inv-loop counts out₀ at next₀ i₀ out next i = Counted counts out₀ out at
 abbrev μ-loop : tie.MeasureT-loop
 μ-loop counts out₀ at next₀ i₀ out next i = length counts - i
 
--- src/text.rt:69:5
 loop-holds : tie.Need-loop-holds Inv-loop μ-loop
 loop-holds c = counted-none _ _ _
 
--- src/text.rt:70:26
 mul-put-count : tie.Need-mul-put-count Inv-loop μ-loop
 mul-put-count c = omega (arith, c .before .before .before .before .good)
 
--- src/text.rt:70:26
 shared-slice-read-put-count : tie.Need-shared-slice-read-put-count Inv-loop μ-loop
 shared-slice-read-put-count c = omega arith
 
--- src/text.rt:70:9
 put-count-requires : tie.Need-put-count-requires Inv-loop μ-loop
 put-count-requires c κs =
     let v = c .before .before .before .loop .inv in
     omega (arith, v .short, v .text .as-long)
 
--- src/text.rt:71:9
 add-i : tie.Need-add-i Inv-loop μ-loop
 add-i c = omega arith
 
--- src/text.rt:69:5
 loop-less : tie.Need-loop-less Inv-loop μ-loop
 loop-less c = omega arith
 
--- src/text.rt:69:5
 loop-again : tie.Need-loop-again Inv-loop μ-loop
 loop-again c = counted-next (c .before .before .before .before .before .before .loop .inv) (c .before .before .before .before .before .loop-test .taken) (c .before .before .put-count .ensures)
 
--- src/text.rt:63:1
 same-length : tie.Need-same-length Inv-loop μ-loop
 same-length c = c .before .loop .inv .text .as-long
 
--- src/text.rt:63:1
 returns : tie.Need-returns Inv-loop μ-loop
 returns c = counted-all (c .before .loop .inv) (c .loop-test .left)
 

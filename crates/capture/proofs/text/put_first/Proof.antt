@@ -7,37 +7,27 @@ use denote.Ref.{now}
 use borrow.Author.Needs.{needs}
 use Rattle.capture.proofs.text.put_first.Statement.{statement}
 use Rattle.capture.proofs.text.put_first.Tie as tie
-use Rattle.capture.proofs.text.put_first.Reads as reads
-use Rattle.capture.proofs.text.put_first.Lts as lts
-use Rattle.capture.proofs.text.put_counts.Reads as put-counts-reads
 
--- src/text.rt:130:20
 slice-aggregate-put-counts : tie.Need-slice-aggregate-put-counts
 slice-aggregate-put-counts c = sym (length-take-le _ _ (omega arith))
 
--- src/text.rt:130:9
 put-counts-requires : tie.Need-put-counts-requires
 put-counts-requires c κs =
     let a = c .before .before .before .before .before .args in
     omega (arith, length-take (a .n) (now (a .counts)))
 
--- src/text.rt:132:9
 put-counts-requires-2 : tie.Need-put-counts-requires-2
 put-counts-requires-2 c κs = search needs
 
--- src/text.rt:125:1
 same-length : tie.Need-same-length
 same-length c = search needs
 
--- src/text.rt:125:1
 returns : tie.Need-returns
 returns c = search needs
 
--- src/text.rt:125:1
 same-length-2 : tie.Need-same-length-2
 same-length-2 c = search needs
 
--- src/text.rt:125:1
 returns-2 : tie.Need-returns-2
 returns-2 c = rw (take-all _ _ (c .before .before .before .before .if1 .left)) (c .before .before .put-counts2 .ensures)
 

@@ -3,40 +3,28 @@ use Rattle.capture.proofs.Puts.{put-more}
 use borrow.Author.Needs.{needs}
 use Rattle.capture.proofs.text.put_head.Statement.{statement}
 use Rattle.capture.proofs.text.put_head.Tie as tie
-use Rattle.capture.proofs.text.put_head.Reads as reads
-use Rattle.capture.proofs.text.put_head.Lts as lts
-use Rattle.capture.proofs.text.put.Reads as put-reads
-use Rattle.capture.proofs.text.put_byte.Reads as put-byte-reads
 
--- src/text.rt:91:17
 slice-aggregate-put : tie.Need-slice-aggregate-put
 slice-aggregate-put c = search needs
 
--- src/text.rt:91:9
 put-requires : tie.Need-put-requires
 put-requires c κs = search needs
 
--- src/text.rt:92:22
 add-put-byte : tie.Need-add-put-byte
 add-put-byte c = search needs
 
--- src/text.rt:92:9
 put-byte-requires : tie.Need-put-byte-requires
 put-byte-requires c κs = search needs
 
--- src/text.rt:93:9
 slice-aggregate-put-2 : tie.Need-slice-aggregate-put-2
 slice-aggregate-put-2 c = search needs
 
--- src/text.rt:93:5
 put-requires-2 : tie.Need-put-requires-2
 put-requires-2 c κs = search needs
 
--- src/text.rt:87:1
 same-length : tie.Need-same-length
 same-length c = search needs
 
--- src/text.rt:87:1
 returns : tie.Need-returns
 returns c = put-more (c .before .before .before .before .before .before .before .before .before .before .before .put .ensures) (put-more (c .before .before .before .before .before .before .before .put-byte .ensures) (c .before .before .put2 .ensures))
 

@@ -2,48 +2,34 @@
 use borrow.Author.Needs.{needs}
 use Rattle.capture.proofs.text.put_place.Statement.{statement}
 use Rattle.capture.proofs.text.put_place.Tie as tie
-use Rattle.capture.proofs.text.put_place.Reads as reads
-use Rattle.capture.proofs.text.put_place.Lts as lts
-use Rattle.capture.proofs.text.put.Reads as put-reads
-use Rattle.capture.proofs.text.put_number.Reads as put-number-reads
 
--- src/text.rt:81:33
 enum-told : tie.Need-enum-told
 enum-told c = search needs
 
--- src/text.rt:81:33
 slice-aggregate-put : tie.Need-slice-aggregate-put
 slice-aggregate-put c = search needs
 
--- src/text.rt:81:29
 put-requires : tie.Need-put-requires
 put-requires c κs = search needs
 
--- src/text.rt:82:19
 enum-known-place : tie.Need-enum-known-place
 enum-known-place c = search needs
 
--- src/text.rt:82:36
 cast-put-number : tie.Need-cast-put-number
 cast-put-number c = search needs
 
--- src/text.rt:82:25
 put-number-requires : tie.Need-put-number-requires
 put-number-requires c κs = search needs
 
--- src/text.rt:76:1
 same-length : tie.Need-same-length
 same-length c = search needs
 
--- src/text.rt:76:1
 returns : tie.Need-returns
 returns c = rw (c .before .before .before .before .before .enum-told .given .1) (c .before .before .put .ensures)
 
--- src/text.rt:76:1
 same-length-2 : tie.Need-same-length-2
 same-length-2 c = search needs
 
--- src/text.rt:76:1
 returns-2 : tie.Need-returns-2
 returns-2 c = rw (c .before .before .before .before .before .place .given .1) (c .before .before .put-number .ensures)
 

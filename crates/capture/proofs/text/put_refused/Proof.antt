@@ -2,103 +2,76 @@
 use borrow.Author.Needs.{needs}
 use Rattle.capture.proofs.text.put_refused.Statement.{statement}
 use Rattle.capture.proofs.text.put_refused.Tie as tie
-use Rattle.capture.proofs.text.put_refused.Reads as reads
-use Rattle.capture.proofs.text.put_refused.Lts as lts
-use Rattle.capture.proofs.text.put_refusal.Reads as put-refusal-reads
 
--- src/text.rt:136:49
 enum-told : tie.Need-enum-told
 enum-told c = search needs
 
--- src/text.rt:136:34
 put-refusal-requires : tie.Need-put-refusal-requires
 put-refusal-requires c κs = search needs
 
--- src/text.rt:137:50
 enum-told-2 : tie.Need-enum-told-2
 enum-told-2 c = search needs
 
--- src/text.rt:137:35
 put-refusal-requires-2 : tie.Need-put-refusal-requires-2
 put-refusal-requires-2 c κs = search needs
 
--- src/text.rt:138:28
 enum-known-why : tie.Need-enum-known-why
 enum-known-why c = search needs
 
--- src/text.rt:138:34
 put-refusal-requires-3 : tie.Need-put-refusal-requires-3
 put-refusal-requires-3 c κs = search needs
 
--- src/text.rt:139:26
 enum-known-why-2 : tie.Need-enum-known-why-2
 enum-known-why-2 c = search needs
 
--- src/text.rt:139:32
 put-refusal-requires-4 : tie.Need-put-refusal-requires-4
 put-refusal-requires-4 c κs = search needs
 
--- src/text.rt:140:29
 enum-known-why-3 : tie.Need-enum-known-why-3
 enum-known-why-3 c = search needs
 
--- src/text.rt:140:35
 put-refusal-requires-5 : tie.Need-put-refusal-requires-5
 put-refusal-requires-5 c κs = search needs
 
--- src/text.rt:141:48
 enum-told-3 : tie.Need-enum-told-3
 enum-told-3 c = search needs
 
--- src/text.rt:141:33
 put-refusal-requires-6 : tie.Need-put-refusal-requires-6
 put-refusal-requires-6 c κs = search needs
 
--- src/text.rt:131:1
 same-length : tie.Need-same-length
 same-length c = search needs
 
--- src/text.rt:131:1
 returns : tie.Need-returns
 returns c = rw (c .before .before .before .before .enum-told .given .1) (c .before .before .put-refusal .ensures)
 
--- src/text.rt:131:1
 same-length-2 : tie.Need-same-length-2
 same-length-2 c = search needs
 
--- src/text.rt:131:1
 returns-2 : tie.Need-returns-2
 returns-2 c = rw (c .before .before .before .before .enum-told2 .given .1) (c .before .before .put-refusal2 .ensures)
 
--- src/text.rt:131:1
 same-length-3 : tie.Need-same-length-3
 same-length-3 c = search needs
 
--- src/text.rt:131:1
 returns-3 : tie.Need-returns-3
 returns-3 c = rw (c .before .before .before .before .before .why .given .1) (c .before .before .put-refusal3 .ensures)
 
--- src/text.rt:131:1
 same-length-4 : tie.Need-same-length-4
 same-length-4 c = search needs
 
--- src/text.rt:131:1
 returns-4 : tie.Need-returns-4
 returns-4 c = rw (c .before .before .before .before .before .why2 .given .1) (c .before .before .put-refusal4 .ensures)
 
--- src/text.rt:131:1
 same-length-5 : tie.Need-same-length-5
 same-length-5 c = search needs
 
--- src/text.rt:131:1
 returns-5 : tie.Need-returns-5
 returns-5 c = rw (c .before .before .before .before .before .why3 .given .1) (c .before .before .put-refusal5 .ensures)
 
--- src/text.rt:131:1
 same-length-6 : tie.Need-same-length-6
 same-length-6 c = search needs
 
--- src/text.rt:131:1
 returns-6 : tie.Need-returns-6
 returns-6 c = rw (c .before .before .before .before .enum-told3 .given .1) (c .before .before .put-refusal6 .ensures)
 

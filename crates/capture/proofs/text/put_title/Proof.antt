@@ -4,39 +4,28 @@ use Rattle.capture.proofs.Puts.{put-more, places}
 use borrow.Author.Needs.{needs}
 use Rattle.capture.proofs.text.put_title.Statement.{statement}
 use Rattle.capture.proofs.text.put_title.Tie as tie
-use Rattle.capture.proofs.text.put_title.Reads as reads
-use Rattle.capture.proofs.text.put_title.Lts as lts
-use Rattle.capture.proofs.text.put.Reads as put-reads
-use Rattle.capture.proofs.text.put_number.Reads as put-number-reads
 
--- src/text.rt:119:17
 slice-aggregate-put : tie.Need-slice-aggregate-put
 slice-aggregate-put c = search needs
 
--- src/text.rt:119:9
 put-requires : tie.Need-put-requires
 put-requires c κs = search needs
 
--- src/text.rt:120:9
 put-number-requires : tie.Need-put-number-requires
 put-number-requires c κs = search needs
 
--- src/text.rt:121:9
 slice-aggregate-put-2 : tie.Need-slice-aggregate-put-2
 slice-aggregate-put-2 c = search needs
 
--- src/text.rt:121:5
 put-requires-2 : tie.Need-put-requires-2
 put-requires-2 c κs =
     let n = c .before .before .before .before .put-number .ensures in
     let p = c .before .before .before .before .before .before .before .before .put .ensures in
     omega (arith, n .past, n .as-long, p .past, p .as-long, places 20 (c .before .before .before .before .before .before .before .before .before .before .before .before .args .lines))
 
--- src/text.rt:115:1
 same-length : tie.Need-same-length
 same-length c = search needs
 
--- src/text.rt:115:1
 returns : tie.Need-returns
 returns c = put-more (c .before .before .before .before .before .before .before .before .before .before .before .put .ensures) (put-more (c .before .before .before .before .before .before .before .put-number .ensures) (c .before .before .put2 .ensures))
 
