@@ -1,53 +1,42 @@
+-- `captures::show` meets its contract: the text is within its room. Assumes nothing.
+use mathlib.Core.Path.{sym}
+use native.Mathlib.Omega.{arith}
+use lib.Seq.{length-take-le}
+use Rattle.capture.proofs.Puts.{within}
 use borrow.Author.Needs.{needs}
 use Rattle.captures.proofs.show.Statement.{statement}
 use Rattle.captures.proofs.show.Tie as tie
-use Rattle.captures.proofs.show.Reads as reads
-use Rattle.captures.proofs.show.Lts as lts
-use Rattle.capture.proofs.read.Reads as read-reads
-use Rattle.capture.proofs.spell.Reads as spell-reads
-use Rattle.io.proofs.write_all.Reads as write-all-reads
 
--- src/main.rt:7:9
 read-requires : tie.Need-read-requires
 read-requires c κs = search needs
 
--- src/main.rt:8:35
 slice-aggregate-spell : tie.Need-slice-aggregate-spell
-slice-aggregate-spell c = ?
+slice-aggregate-spell c = sym (c .before .read .ensures .1)
 
--- src/main.rt:8:44
 slice-aggregate-spell-2 : tie.Need-slice-aggregate-spell-2
 slice-aggregate-spell-2 c = search needs
 
--- src/main.rt:8:9
 spell-requires : tie.Need-spell-requires
-spell-requires c κs = ?
+spell-requires c κs = omega (arith, c .before .before .read .ensures .1)
 
--- src/main.rt:9:5
 write-all-requires : tie.Need-write-all-requires
 write-all-requires c κs = search needs
 
--- src/main.rt:10:22
 slice-aggregate-write-all : tie.Need-slice-aggregate-write-all
 slice-aggregate-write-all c = search needs
 
--- src/main.rt:10:5
 write-all-requires-2 : tie.Need-write-all-requires-2
 write-all-requires-2 c κs = search needs
 
--- src/main.rt:11:22
 array-share-prefix-text : tie.Need-array-share-prefix-text
-array-share-prefix-text c = ?
+array-share-prefix-text c = within (c .before .before .before .before .spell .ensures)
 
--- src/main.rt:11:22
 slice-aggregate-write-all-2 : tie.Need-slice-aggregate-write-all-2
-slice-aggregate-write-all-2 c = ?
+slice-aggregate-write-all-2 c = sym (length-take-le _ _ (within (c .before .before .before .before .before .spell .ensures)))
 
--- src/main.rt:11:5
 write-all-requires-3 : tie.Need-write-all-requires-3
 write-all-requires-3 c κs = search needs
 
--- src/main.rt:4:1
 returns : tie.Need-returns
 returns c = search needs
 

@@ -9,12 +9,6 @@ use Rattle.capture.proofs.Sound.{ready-less}
 use Rattle.capture.proofs.Whole.{started-sound}
 use Rattle.wall.proofs.main.Statement.{statement}
 use Rattle.wall.proofs.main.Tie as tie
-use Rattle.wall.proofs.main.Reads as reads
-use Rattle.wall.proofs.main.Lts as lts
-use Rattle.capture.proofs.answer.Reads as answer-reads
-use Rattle.capture.proofs.start.Reads as start-reads
-use Rattle.wall.proofs.print.Reads as print-reads
-use Rattle.wall.proofs.read_some.Reads as read-some-reads
 
 abbrev Inv-loop : tie.InvT-loop
 Inv-loop sizes₀ counts reader₀ turns₀ sizes reader turns = Ready reader (65536 * turns) × (length sizes ≡ 64)
@@ -22,11 +16,9 @@ Inv-loop sizes₀ counts reader₀ turns₀ sizes reader turns = Ready reader (6
 abbrev μ-loop : tie.MeasureT-loop
 μ-loop sizes₀ counts reader₀ turns₀ sizes reader turns = turns
 
--- src/main.rt:43:9
 start-requires : tie.Need-start-requires Inv-loop μ-loop
 start-requires c κs = tt
 
--- src/main.rt:45:5
 loop-holds : tie.Need-loop-holds Inv-loop μ-loop
 loop-holds c = (
   subst (λ (r : Reader). Ready r (65536 * 140737488355328)) (sym (c .start .ensures))
@@ -34,17 +26,14 @@ loop-holds c = (
   refl,
 )
 
--- src/main.rt:46:13
 read-some-requires : tie.Need-read-some-requires Inv-loop μ-loop
 read-some-requires c κs =
     let t = c .before .before .loop .turns in
     ready-less 65536 (65536 * t) (omega arith) (c .before .before .loop .inv .0)
 
--- src/main.rt:45:5
 loop-less : tie.Need-loop-less Inv-loop μ-loop
 loop-less c = omega arith
 
--- src/main.rt:45:5
 loop-again : tie.Need-loop-again Inv-loop μ-loop
 loop-again c =
     let t = c .before .before .before .before .before .before .loop .turns in
@@ -52,15 +41,12 @@ loop-again c =
     let v = c .before .before .before .before .before .before .loop .inv in
     (e .ready 0 (ready-less (65536 + 0) (65536 * t) (omega arith) (v .0)), e .full ∙ v .1)
 
--- src/main.rt:51:13
 sub-turns : tie.Need-sub-turns Inv-loop μ-loop
 sub-turns c = omega arith
 
--- src/main.rt:45:5
 loop-less-2 : tie.Need-loop-less-2 Inv-loop μ-loop
 loop-less-2 c = omega arith
 
--- src/main.rt:45:5
 loop-again-2 : tie.Need-loop-again-2 Inv-loop μ-loop
 loop-again-2 c =
     let t = c .before .before .before .before .before .before .loop .turns in
@@ -68,27 +54,21 @@ loop-again-2 c =
     let v = c .before .before .before .before .before .before .loop .inv in
     (e .ready (65536 * (t - 1)) (ready-less (65536 + 65536 * (t - 1)) (65536 * t) (omega arith) (v .0)), e .full ∙ v .1)
 
--- src/main.rt:54:41
 slice-aggregate-answer : tie.Need-slice-aggregate-answer Inv-loop μ-loop
 slice-aggregate-answer c = sym (c .before .before .loop .inv .1)
 
--- src/main.rt:54:49
 slice-aggregate-answer-2 : tie.Need-slice-aggregate-answer-2 Inv-loop μ-loop
 slice-aggregate-answer-2 c = refl
 
--- src/main.rt:54:9
 answer-requires : tie.Need-answer-requires Inv-loop μ-loop
 answer-requires c κs = (c .before .before .before .loop .inv .1, refl)
 
--- src/main.rt:55:18
 slice-aggregate-print : tie.Need-slice-aggregate-print Inv-loop μ-loop
 slice-aggregate-print c = sym (c .before .before .answer .kept .1 .1 .0)
 
--- src/main.rt:55:5
 print-requires : tie.Need-print-requires Inv-loop μ-loop
 print-requires c κs = c .before .before .answer .kept .1 .1 .0
 
--- src/main.rt:40:1
 returns : tie.Need-returns Inv-loop μ-loop
 returns c = tt
 
