@@ -1,0 +1,120 @@
+-- From the balanced call to the answer of a capture: there is room for 64 items, and a finished reader has the capture's numbers.
+-- Assumes nothing.
+use mathlib.Core.Path.{_≡_, refl, sym, _∙_, ap, subst}
+use mathlib.Core.Bool.{true}
+use mathlib.Core.List.{List, []}
+use Prim.Native.Nat.{ℕ, _*_, _≤_, _^_}
+use native.Mathlib.Nat.{mul-le-mul}
+use native.Mathlib.Omega.{arith}
+use native.Mathlib.Decide.{decLe}
+use borrow.Author.Tests.{le-leb, lt-ltb, le-ltb}
+use lib.Dec.{ltb}
+use lib.ListN.{length, take}
+use lib.Seq.{take-all}
+use lib.Ieee.{Float}
+use Rattle.refusal.specs.declared.Verdict.{Verdict}
+use Rattle.refusal.specs.declared.Verdict.the-variants.{Passed}
+use Rattle.refusal.specs.declared.Verdict.the-variants as verdict
+use Rattle.refusal.specs.declared.Answer.{Answer}
+use Rattle.breaking.specs.Calls.{breakingVerdict}
+use Rattle.balance.specs.Calls.{Lent, hasRoom, balancedVerdict, BalancedCall}
+use Rattle.capture.specs.Reading.{Reading, whole, broken, reading}
+use Rattle.capture.specs.Machine.{Fed, withSizes, fed, started, finished}
+use Rattle.capture.specs.Answer.{replyOf, verdictOf, ByVerdict, ByCount, Answered, AnsweredTo}
+use Rattle.capture.specs.declared.Head.{Head}
+use Rattle.capture.specs.declared.Reader.{Reader}
+use Rattle.capture.specs.declared.Captured.{Captured}
+use Rattle.capture.specs.declared.Captured.the-variants.{Whole}
+use Rattle.capture.specs.declared.Captured.the-variants as captured
+use Rattle.capture.specs.declared.Reply.{Reply}
+use Rattle.capture.specs.declared.Reply.the-variants.{Lines}
+use Rattle.capture.proofs.Sound.{fed-room}
+use Rattle.capture.proofs.Whole.{knownOf, toldBy, said}
+
+-- ---- the room
+
+pub record Roomy (l : Lent) : Type 0 where
+  pub counts-room : length (l .counts) ≡ 64
+  pub opts-room : length (l .opts) ≡ 4096
+  pub fit-room : length (l .fit) ≡ 64
+  pub greedy-room : length (l .greedy) ≡ 64
+  pub reach-room : length (l .reach) ≡ 64
+  pub sums-room : length (l .sums) ≡ 64
+  pub prev-room : length (l .prev) ≡ 64
+  pub cur-room : length (l .cur) ≡ 64
+
+room-is : (n : ℕ) (l : Lent) → n ≤ 64 → Roomy l → hasRoom n l ≡ true
+room-is n l h r =
+    rw (
+      r .counts-room,
+      r .opts-room,
+      r .fit-room,
+      r .greedy-room,
+      r .reach-room,
+      r .sums-room,
+      r .prev-room,
+      r .cur-room,
+      le-leb n 64 h,
+      le-leb (n * n) 4096 (mul-le-mul h h),
+    )
+
+pub breaks : (head : Head) (sizes : List Float) (before after : Lent) (r : Answer) → length sizes ≤ 64 → Roomy before
+    → BalancedCall (head .limit) (head .gap) (head .minimum) sizes before r after
+    → ByVerdict (verdictOf head sizes) head sizes (before .counts) (replyOf r) (after .counts)
+breaks head sizes before after r few roomy call = go (verdictOf head sizes) refl
+  where
+    same : balancedVerdict (head .limit) (head .gap) sizes before ≡ verdictOf head sizes
+    same = ap (breakingVerdict [] (head .limit) (head .gap) sizes) (room-is (length sizes) before few roomy)
+
+    go : (v : Verdict) → verdictOf head sizes ≡ v → ByVerdict v head sizes (before .counts) (replyOf r) (after .counts)
+    go (verdict.Refused why) e =
+        let x = call .refused why (same ∙ e) in
+        (ap replyOf (x .0), ap (λ (l : Lent). l .counts) (x .1))
+    go Passed e =
+        let x = call .accepted (same ∙ e) in
+        let d = x .2 in
+        record {
+          division = d .division;
+          balanced = d .balanced;
+          lines = ap replyOf (x .1) ∙ ap Lines (d .lines-are);
+          cells = ap (λ (l : Lent). l .counts) (d .cells);
+        }
+
+-- ---- the reader
+
+module _ (before : List ℕ) (r : Reply) (after : List ℕ) where
+  transfer : (s : Captured) (room : List Float) (said : Reading) → toldBy s room ≡ knownOf said → AnsweredTo s room before r after → Answered said before r after
+  transfer (Whole h n) room (broken p) e a = let z : _≡_ {A = ℕ} 0 1 = cc in absurd (omega arith)
+  transfer (captured.Broken p) room (whole g xs) e a = let z : _≡_ {A = ℕ} 0 1 = cc in absurd (omega arith)
+  transfer (captured.Broken p) room (broken q) e a = let z : p ≡ q = cc in subst (λ (k : ℕ). Answered (broken k) before r after) z a
+  transfer (Whole h n) room (whole g xs) e a = go (decLe n 64)
+    where
+      heads : h ≡ g
+      heads = cc
+
+      many : n ≡ length xs
+      many = cc
+
+      kept : take n room ≡ take 64 xs
+      kept = cc
+
+      go : Dec (n ≤ 64) → ByCount (ltb 64 (length xs)) g xs before r after
+      go (yes few) =
+          let all : take n room ≡ xs = kept ∙ take-all 64 xs (omega (arith, many)) in
+          let b : ByVerdict (verdictOf h (take n room)) h (take n room) before r after = rw (le-ltb 64 n few) at a in
+          rw (sym many, le-ltb 64 n few)
+          (subst (λ (l : List Float). ByVerdict (verdictOf g l) g l before r after) all
+          (subst (λ (k : Head). ByVerdict (verdictOf k (take n room)) k (take n room) before r after) heads b))
+      go (no lots) =
+          let b : ByCount true h (take n room) before r after = rw (lt-ltb 64 n (omega arith)) at a in
+          rw (sym many, lt-ltb 64 n (omega arith)) b
+
+pub fed-full : {r : Reader} {sizes : List Float} (fd : Fed) (l : List ℕ) → length (fd .sizes) ≡ 64 → withSizes r sizes ≡ fed fd l → length sizes ≡ 64
+fed-full fd l full e = ap (λ (f : Fed). length (f .sizes)) e ∙ (fed-room l fd ∙ full)
+
+pub reads : {r : Reader} {sizes : List Float} (room : List Float) (l before : List ℕ) (reply : Reply) (after : List ℕ) → length room ≡ 64 → length l ≤ 2 ^ 63
+    → withSizes r sizes ≡ fed (withSizes started room) l → AnsweredTo (finished r) sizes before reply after → Answered (reading l) before reply after
+reads {r} {sizes} room l before reply after full long e a =
+    transfer before reply after (finished r) sizes (reading l)
+    (ap (λ (f : Fed). toldBy (finished (f .reader)) (f .sizes)) e ∙ said room l full long)
+    a

@@ -1,0 +1,65 @@
+-- Document 01, "Records for the program": what a capture is answered with. Assumes nothing.
+use mathlib.Core.Path.{_≡_}
+use mathlib.Core.Bool.{Bool, true, false}
+use mathlib.Core.List.{List, []}
+use Prim.Native.Nat.{ℕ}
+use lib.Dec.{ltb}
+use lib.ListN.{length, take}
+use lib.Ieee.{Float}
+use Rattle.grid.specs.Grid.{sixtyFourths}
+use Rattle.refusal.specs.declared.Refusal.the-variants.{TooManyItems}
+use Rattle.refusal.specs.declared.Verdict.{Verdict}
+use Rattle.refusal.specs.declared.Verdict.the-variants.{Passed}
+use Rattle.refusal.specs.declared.Verdict.the-variants as verdict
+use Rattle.refusal.specs.declared.Answer.{Answer}
+use Rattle.refusal.specs.declared.Answer.the-variants.{Done}
+use Rattle.refusal.specs.declared.Answer.the-variants as answer
+use Rattle.breaking.specs.Breaking.{limitOf}
+use Rattle.breaking.specs.Calls.{breakingVerdict, units, written}
+use Rattle.balance.specs.Rule.{Balanced}
+use Rattle.capture.specs.Reading.{Reading, whole, broken}
+use Rattle.capture.specs.declared.Head.{Head}
+use Rattle.capture.specs.declared.Captured.{Captured}
+use Rattle.capture.specs.declared.Captured.the-variants.{Whole}
+use Rattle.capture.specs.declared.Captured.the-variants as captured
+use Rattle.capture.specs.declared.Reply.{Reply}
+use Rattle.capture.specs.declared.Reply.the-variants.{Lines, Refused, Broken}
+
+-- a breaking call's answer as the capture's
+abbrev pub replyOf : Answer → Reply
+replyOf (Done lines rounds) = Lines lines
+replyOf (answer.Refused why) = Refused why
+
+-- checks 3 to 6 of the numbers: there is always room
+abbrev pub verdictOf : Head → List Float → Verdict
+verdictOf head sizes = breakingVerdict [] (head .limit) (head .gap) sizes true
+
+-- "The program does balanced breaking": the counts of the chosen division, by line
+pub record Divided (head : Head) (sizes : List Float) (before : List ℕ) (r : Reply) (after : List ℕ) : Type 0 where
+  pub division : List ℕ
+  pub balanced : Balanced (limitOf (head .limit)) (sixtyFourths (head .gap)) (units sizes) (head .minimum) division
+  pub lines : r ≡ Lines (length division)
+  pub cells : after ≡ written (length sizes) division before
+
+-- a refusal changes no cell
+abbrev pub Refuses : Reply → List ℕ → Reply → List ℕ → Type 0
+Refuses refusal before r after = (r ≡ refusal) × (after ≡ before)
+
+abbrev pub ByVerdict : Verdict → Head → List Float → List ℕ → Reply → List ℕ → Type 0
+ByVerdict Passed head sizes before r after = Divided head sizes before r after
+ByVerdict (verdict.Refused why) head sizes before r after = Refuses (Refused why) before r after
+
+-- "Over 64 items is answer 1", and else checks 3 to 6
+abbrev pub ByCount : Bool → Head → List Float → List ℕ → Reply → List ℕ → Type 0
+ByCount true head sizes before r after = Refuses (Refused TooManyItems) before r after
+ByCount false head sizes before r after = ByVerdict (verdictOf head sizes) head sizes before r after
+
+-- THE ANSWER: 7 "given before any other check", and then the numbers'
+abbrev pub Answered : Reading → List ℕ → Reply → List ℕ → Type 0
+Answered (broken place) before r after = Refuses (Broken place) before r after
+Answered (whole head sizes) before r after = ByCount (ltb 64 (length sizes)) head sizes before r after
+
+-- the same of a finished reader, which keeps 64 sizes
+abbrev pub AnsweredTo : Captured → List Float → List ℕ → Reply → List ℕ → Type 0
+AnsweredTo (captured.Broken place) room before r after = Refuses (Broken place) before r after
+AnsweredTo (Whole head items) room before r after = ByCount (ltb 64 items) head (take items room) before r after

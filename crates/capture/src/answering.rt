@@ -1,0 +1,88 @@
+// From a capture's numbers to its answer.
+ghost use mathlib.Core.Path.{_≡_};
+ghost use Prim.Native.Nat.{_≤_};
+ghost use lib.ListN.{length, take};
+ghost use lib.Dec.{ltb};
+ghost use Rattle.capture.specs.Reading.{reading};
+ghost use Rattle.capture.specs.Machine.{finished};
+ghost use Rattle.capture.specs.Answer.{replyOf, verdictOf, ByVerdict, ByCount, Answered, AnsweredTo};
+use crate::Captured;
+use crate::Head;
+use crate::Reader;
+use crate::Reply;
+use crate::feeding::feed;
+use crate::feeding::finish;
+use crate::feeding::start;
+use refusal::Answer;
+use refusal::Refusal;
+
+fn reply_of(a: Answer) -> Reply
+    ensures { λ r. ⌜ r ≡ replyOf a ⌝ }
+{
+    match a {
+        Answer::Done { lines, rounds: _ } => Reply::Lines(lines),
+        Answer::Refused(why) => Reply::Refused(why),
+    }
+}
+
+// Balanced breaking, with the room to work in.
+fn break_items(head: Head, sizes: &[f32], counts: &mut [u32]) -> Reply
+    requires { ⌜ (length (now sizes) ≤ 64) × (length (now counts) ≡ 64) ⌝ }
+    ensures { λ r. ⌜ ByVerdict (verdictOf head (now (sizes .entry))) head (now (sizes .entry)) (now (counts .entry)) r (now (counts .exit)) ⌝ }
+{
+    let limit = head.limit;
+    let mut opts = [0u32; 4096];
+    let mut fit = [0u32; 64];
+    let mut greedy = [0u32; 64];
+    let mut reach = [0u32; 64];
+    let mut sums = [0.0f64; 64];
+    let mut prev = [0.0f64; 64];
+    let mut cur = [0.0f64; 64];
+    reply_of(balance::balanced(
+        limit,
+        head.gap,
+        head.minimum,
+        sizes,
+        counts,
+        &mut opts,
+        &mut fit,
+        &mut greedy,
+        &mut reach,
+        &mut sums,
+        &mut prev,
+        &mut cur,
+    ))
+}
+
+// The sizes are the first of `items`, as many as are kept.
+fn answer_items(head: Head, items: usize, sizes: &[f32], counts: &mut [u32]) -> Reply
+    requires { ⌜ (length (now sizes) ≡ 64) × (length (now counts) ≡ 64) ⌝ }
+    ensures { λ r. ⌜ ByCount (ltb 64 items) head (take items (now (sizes .entry))) (now (counts .entry)) r (now (counts .exit)) ⌝ }
+{
+    if 64 < items {
+        return Reply::Refused(Refusal::TooManyItems);
+    }
+    break_items(head, &sizes[..items], counts)
+}
+
+// The answer once the last byte was fed. For programs that feed a capture in parts: it asks for the lists that they feed.
+pub fn answer(r: Reader, sizes: &[f32], counts: &mut [u32]) -> Reply
+    requires { ⌜ (length (now sizes) ≡ 64) × (length (now counts) ≡ 64) ⌝ }
+    ensures { λ s. ⌜ AnsweredTo (finished r) (now (sizes .entry)) (now (counts .entry)) s (now (counts .exit)) ⌝ }
+{
+    let said = finish(r);
+    match said {
+        Captured::Broken(place) => Reply::Broken(place),
+        Captured::Whole { head, items } => answer_items(head, items, sizes, counts),
+    }
+}
+
+// Reads a whole capture to its answer. Nothing is asked of the bytes.
+pub fn read(bytes: &[u8], counts: &mut [u32; 64]) -> Reply
+    ensures { λ r. ⌜ Answered (reading (now (bytes .entry))) (now (counts .entry)) r (now (counts .exit)) ⌝ }
+    ensures { λ r. ⌜ length (now (counts .exit)) ≡ 64 ⌝ }
+{
+    let mut sizes = [0.0f32; 64];
+    let r = feed(start(), bytes, &mut sizes);
+    answer(r, &sizes, counts)
+}

@@ -1,0 +1,94 @@
+-- `wall::main` is safe and ends: each turn leaves the reader room for the turns to come. Assumes nothing.
+use mathlib.Core.Path.{_≡_, refl, sym, _∙_, subst}
+use Prim.Native.Nat.{_*_, _+_, _-_}
+use native.Mathlib.Omega.{arith}
+use lib.ListN.{length}
+use Rattle.capture.specs.Machine.{Ready}
+use Rattle.capture.specs.declared.Reader.{Reader}
+use Rattle.capture.proofs.Sound.{ready-less}
+use Rattle.capture.proofs.Whole.{started-sound}
+use Rattle.wall.proofs.main.Statement.{statement}
+use Rattle.wall.proofs.main.Tie as tie
+
+abbrev Inv-loop : tie.InvT-loop
+Inv-loop sizes₀ counts reader₀ turns₀ sizes reader turns = Ready reader (65536 * turns) × (length sizes ≡ 64)
+
+abbrev μ-loop : tie.MeasureT-loop
+μ-loop sizes₀ counts reader₀ turns₀ sizes reader turns = turns
+
+start-requires : tie.Need-start-requires Inv-loop μ-loop
+start-requires c κs = tt
+
+loop-holds : tie.Need-loop-holds Inv-loop μ-loop
+loop-holds c = (
+  subst (λ (r : Reader). Ready r (65536 * 140737488355328)) (sym (c .start .ensures))
+      (record { sound = started-sound; room = omega arith }),
+  refl,
+)
+
+read-some-requires : tie.Need-read-some-requires Inv-loop μ-loop
+read-some-requires c κs =
+    let t = c .before .before .loop .turns in
+    ready-less 65536 (65536 * t) (omega arith) (c .before .before .loop .inv .0)
+
+loop-less : tie.Need-loop-less Inv-loop μ-loop
+loop-less c = omega arith
+
+loop-again : tie.Need-loop-again Inv-loop μ-loop
+loop-again c =
+    let t = c .before .before .before .before .before .before .loop .turns in
+    let e = c .before .before .before .read-some .ensures in
+    let v = c .before .before .before .before .before .before .loop .inv in
+    (e .ready 0 (ready-less (65536 + 0) (65536 * t) (omega arith) (v .0)), e .full ∙ v .1)
+
+sub-turns : tie.Need-sub-turns Inv-loop μ-loop
+sub-turns c = omega arith
+
+loop-less-2 : tie.Need-loop-less-2 Inv-loop μ-loop
+loop-less-2 c = omega arith
+
+loop-again-2 : tie.Need-loop-again-2 Inv-loop μ-loop
+loop-again-2 c =
+    let t = c .before .before .before .before .before .before .loop .turns in
+    let e = c .before .before .before .read-some .ensures in
+    let v = c .before .before .before .before .before .before .loop .inv in
+    (e .ready (65536 * (t - 1)) (ready-less (65536 + 65536 * (t - 1)) (65536 * t) (omega arith) (v .0)), e .full ∙ v .1)
+
+slice-aggregate-answer : tie.Need-slice-aggregate-answer Inv-loop μ-loop
+slice-aggregate-answer c = sym (c .before .before .loop .inv .1)
+
+slice-aggregate-answer-2 : tie.Need-slice-aggregate-answer-2 Inv-loop μ-loop
+slice-aggregate-answer-2 c = refl
+
+answer-requires : tie.Need-answer-requires Inv-loop μ-loop
+answer-requires c κs = (c .before .before .before .loop .inv .1, refl)
+
+slice-aggregate-print : tie.Need-slice-aggregate-print Inv-loop μ-loop
+slice-aggregate-print c = sym (c .before .before .answer .kept .1 .1 .0)
+
+print-requires : tie.Need-print-requires Inv-loop μ-loop
+print-requires c κs = c .before .before .answer .kept .1 .1 .0
+
+returns : tie.Need-returns Inv-loop μ-loop
+returns c = tt
+
+pub main-spec : {M : Type 1} → statement M
+main-spec =
+    tie.close
+    (tie.spec
+    Inv-loop
+    μ-loop
+    start-requires
+    loop-holds
+    read-some-requires
+    loop-less
+    loop-again
+    sub-turns
+    loop-less-2
+    loop-again-2
+    slice-aggregate-answer
+    slice-aggregate-answer-2
+    answer-requires
+    slice-aggregate-print
+    print-requires
+    returns)

@@ -1,0 +1,62 @@
+#!/usr/bin/env python3
+"""Writes a capture (docs: "Records for the program") from a line of text, to standard output.
+
+    tools/capture.py limit 100 gap 10 min 1 / 70 / 0 / 20 > p1.capture
+    tools/capture.py limit max gap 0 min 9 / 5 | target/.../wall
+
+The first part names the limit (a number, min or max), the gap and the minimum line count; each further part is an item's size.
+A float may also be given by its bits, as 0x7fc00000. `raw HEX` as a part puts these bytes in its place, to try broken records,
+and a last part `open` leaves the end record out.
+"""
+import struct
+import sys
+
+LIMIT_KINDS = {"min": 1, "max": 2}
+
+
+def float_bytes(text):
+    if text.startswith("0x"):
+        return struct.pack("<I", int(text, 16))
+    return struct.pack("<f", float(text))
+
+
+def head_bytes(words):
+    given = dict(zip(words[::2], words[1::2]))
+    if len(words) != 6 or set(given) != {"limit", "gap", "min"}:
+        raise ValueError("the first part is: limit L gap G min M")
+    limit = given["limit"]
+    kind = LIMIT_KINDS.get(limit, 0)
+    body = bytes(4) if kind else float_bytes(limit)
+    return bytes([1, kind]) + body + float_bytes(given["gap"]) + struct.pack("<H", int(given["min"]))
+
+
+def part_bytes(words, first):
+    if words[0] == "raw":
+        return bytes.fromhex("".join(words[1:]))
+    if first:
+        return head_bytes(words)
+    if len(words) != 1:
+        raise ValueError("an item is one size: " + " ".join(words))
+    return bytes([2]) + float_bytes(words[0])
+
+
+def capture(text):
+    parts = [part.split() for part in text.split("/")]
+    is_open = parts[-1] == ["open"]
+    if is_open:
+        parts.pop()
+    records = b"".join(part_bytes(words, i == 0) for i, words in enumerate(parts))
+    return records if is_open else records + bytes([3])
+
+
+def main():
+    if len(sys.argv) < 2:
+        sys.exit(__doc__)
+    try:
+        sys.stdout.buffer.write(capture(" ".join(sys.argv[1:])))
+    except (ValueError, IndexError, struct.error, OverflowError) as fault:
+        sys.exit("capture.py: " + str(fault))
+
+
+if __name__ == "__main__":
+    main()
