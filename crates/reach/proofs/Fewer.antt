@@ -59,11 +59,11 @@ module _ (k : Bool) (sh : Share) (t : Float) where
       let b' = room-next (far false s) (far false (factor k (c .item))) (far false (s ⊕ factor k (c .item))) (count (λ c. far false (factor k (c .item))) l) (count (λ c. px) l) (a .3) b in
       settled sh t c (λ d. far false (sumFrom r (λ c. factor k (c .item)) (cond (d .frozen) (left (map (settle sh t) l)) (d ∷ left (map (settle sh t) l)))) ≤ far false (sumFrom s (λ c. factor k (c .item)) (cond (c .frozen) (left l) (c ∷ left l))))
       (λ e. subst (λ (b : Bool). far false (sumFrom r (λ c. factor k (c .item)) (cond b (left (map (settle sh t) l)) (c ∷ left (map (settle sh t) l)))) ≤ far false (sumFrom s (λ c. factor k (c .item)) (cond b (left l) (c ∷ left l)))) (sym e)
-          (fewer s r l (ok .1) p p' q q' h (m .3)))
+      (fewer s r l (ok .1) p p' q q' h (m .3)))
       (λ e d. subst (λ (b : Bool). far false (sumFrom r (λ c. factor k (c .item)) (left (map (settle sh t) l))) ≤ far false (sumFrom s (λ c. factor k (c .item)) (cond b (left l) (c ∷ left l)))) (sym e)
-          (fewer (s ⊕ factor k (c .item)) r l (ok .1) (a .0) (a .1) q q' (le-trans h keep) b'))
+      (fewer (s ⊕ factor k (c .item)) r l (ok .1) (a .0) (a .1) q q' (le-trans h keep) b'))
       (λ e d. subst (λ (b : Bool). far false (sumFrom (r ⊕ factor k (c .item)) (λ c. factor k (c .item)) (left (map (settle sh t) l))) ≤ far false (sumFrom s (λ c. factor k (c .item)) (cond b (left l) (c ∷ left l)))) (sym e)
-          (fewer (s ⊕ factor k (c .item)) (r ⊕ factor k (c .item)) l (ok .1) (a .0) (a .1) (a' .0) (a' .1) both b'))
+      (fewer (s ⊕ factor k (c .item)) (r ⊕ factor k (c .item)) l (ok .1) (a .0) (a .1) (a' .0) (a' .1) both b'))
     where
       more : (r s a : ℕ) → r ≤ s → r + a ≤ s + a
       more r s a h = omega arith

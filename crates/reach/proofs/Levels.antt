@@ -211,8 +211,8 @@ module _ (k : Bool) (sh : Share) (t : Float) (l : List Cell) (ok : All (Sound k)
       cell c s q = settled sh t c (λ d. based c ≤ based d + cond (c .frozen) 0 (part true sh (c .item) + 128 * px))
           (λ e. more (based c) (cond (c .frozen) 0 (part true sh (c .item) + 128 * px)))
           (λ e d. subst (λ (b : Bool). cond b (far false (c .target)) (far false (c .item .base)) ≤ far false (sized sh (c .item)) + cond b 0 (part true sh (c .item) + 128 * px)) (sym e)
-              (lost (far false (c .item .base)) (far true (c .item .base)) (far false (Rattle.flexing.specs.Flex.flexed sh (c .item))) (far true (Rattle.flexing.specs.Flex.flexed sh (c .item))) (far false (sized sh (c .item))) (part true sh (c .item)) (128 * px)
-              (q e .moved .near) (s .item .sizes .base .above) (q e .raised (above-nought (q e .violated) (sym (u (violation sh (c .item))) ∙ d)) .2)))
+          (lost (far false (c .item .base)) (far true (c .item .base)) (far false (Rattle.flexing.specs.Flex.flexed sh (c .item))) (far true (Rattle.flexing.specs.Flex.flexed sh (c .item))) (far false (sized sh (c .item))) (part true sh (c .item)) (128 * px)
+          (q e .moved .near) (s .item .sizes .base .above) (q e .raised (above-nought (q e .violated) (sym (u (violation sh (c .item))) ∙ d)) .2)))
           (λ e d. subst (λ (b : Bool). cond b (far false (c .target)) (far false (c .item .base)) ≤ far false (c .item .base) + cond b 0 (part true sh (c .item) + 128 * px)) (sym e) (more (far false (c .item .base)) (part true sh (c .item) + 128 * px)))
 
 -- ---- what a round conserves, over the whole line

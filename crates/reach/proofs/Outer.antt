@@ -168,9 +168,10 @@ unfolding count
 margins [] h = (zero-le, zero-le)
 margins (it ∷ l) h =
     let m = margin-lies (fine (h .0)) in
-    let r = margins l (h .1) in
-    (go (far false (margin it)) (far true (margin it)) (far false (it .start)) (far true (it .start)) (far false (it .end)) (far true (it .end)) (count (λ it. far false (margin it)) l) (count (λ it. far true (margin it)) l) (count (λ it. far false (it .start) + far false (it .end)) l) (count (λ it. far true (it .start) + far true (it .end)) l) (length l) px (m .near-f) (r .0),
-     go (far true (margin it)) (far false (margin it)) (far true (it .start)) (far false (it .start)) (far true (it .end)) (far false (it .end)) (count (λ it. far true (margin it)) l) (count (λ it. far false (margin it)) l) (count (λ it. far true (it .start) + far true (it .end)) l) (count (λ it. far false (it .start) + far false (it .end)) l) (length l) px (m .near-t) (r .1))
+    let r = margins l (h .1) in (
+      go (far false (margin it)) (far true (margin it)) (far false (it .start)) (far true (it .start)) (far false (it .end)) (far true (it .end)) (count (λ it. far false (margin it)) l) (count (λ it. far true (margin it)) l) (count (λ it. far false (it .start) + far false (it .end)) l) (count (λ it. far true (it .start) + far true (it .end)) l) (length l) px (m .near-f) (r .0),
+      go (far true (margin it)) (far false (margin it)) (far true (it .start)) (far false (it .start)) (far true (it .end)) (far false (it .end)) (count (λ it. far true (margin it)) l) (count (λ it. far false (margin it)) l) (count (λ it. far true (it .start) + far true (it .end)) l) (count (λ it. far false (it .start) + far false (it .end)) l) (length l) px (m .near-t) (r .1),
+    )
   where
     go : (m m' s s' e e' M M' S S' n p : ℕ) → m + s' + e' ≤ m' + s + e + p → M + S' ≤ M' + S + n * p → m + M + (s' + e' + S') ≤ m' + M' + (s + e + S) + suc n * p
     go m m' s s' e e' M M' S S' n p h k = omega arith
@@ -267,4 +268,3 @@ free-sides inner gap l s t =
   where
     go : (p m i j n o x y g h s t k : ℕ) → p + j + o ≡ m + i + n → j ≡ 0 → n ≡ y → o ≡ x → x + h + t ≡ y + g + s → g ≡ k → h ≡ 0 → p + (k + s) ≡ m + (i + t)
     go p m i j n o x y g h s t k a b c d e f q = omega arith
-

@@ -234,4 +234,3 @@ module _ {x y z : Float} (r : Sum x y z) where
       go false false E e a b h o k l = up-to (far false z) (far true z) (far false x) (far true x) (far false y) (far true y) E e a b h o k
       go true false E e a b h o k l = down-to (far false z) (far true z) (far false x) (far true x) (far false y) (far true y) E e a b h o l
       go false true E e a b h o k l = down-to (far true z) (far false z) (far true x) (far false x) (far true y) (far false y) E e a b h o l
-

@@ -193,7 +193,7 @@ module _ (g : Bool) (sh : Share) (s : Shares g sh) (l : List Cell) (n : length l
   pub violations : Near (512 * px) violations-big (λ c. violation sh (c .item)) nought l (total (λ c. violation sh (c .item)) l)
   violations = total-near (512 * px) violations-big (λ c. violation sh (c .item)) nought l (nought-num .0) (all-map (λ c t. t .violated) l ts)
       (λ h. fits (far h nought) (count (λ c. far h (violation sh (c .item))) l) (count (λ c. part g sh (c .item)) l) (length l * (1048576 * px)) (count (λ c. 512 * px) l) (far g (sh .free)) px
-          (nought-num .1 h) (each-most h l ts) (mul-le-mul-right (1048576 * px) n) (le-trans (le-of-eq (count-long (512 * px) l)) (mul-le-mul-right (512 * px) n)) w (s .most))
+      (nought-num .1 h) (each-most h l ts) (mul-le-mul-right (1048576 * px) n) (le-trans (le-of-eq (count-long (512 * px) l)) (mul-le-mul-right (512 * px) n)) w (s .most))
     where
       fits : (o a d m k f p : ℕ) → o ≡ 0 → a ≤ d + m → m ≤ 1024 * (1048576 * p) → k ≤ 1024 * (512 * p) → 4096 * d ≤ 4097 * f + 4096 * p → f ≤ 1073741824 * p → o + a + k ≤ 16777216 * (512 * p)
       fits o a d m k f p h i j l u q = omega arith
@@ -208,7 +208,7 @@ module _ (g : Bool) (sh : Share) (s : Shares g sh) (l : List Cell) (n : length l
       (le-trans (le-of-eq (count-long (384 * px) l)) (mul-le-mul-right (384 * px) n)) (le-trans (le-of-eq (count-long (512 * px) l)) (mul-le-mul-right (512 * px) n))
     where
       sides : (g : Bool) → ((k : Bool) → far k (total (λ c. violation sh (c .item)) l) + far (not k) nought + count (λ c. far (not k) (violation sh (c .item))) l
-              ≤ far (not k) (total (λ c. violation sh (c .item)) l) + far k nought + count (λ c. far k (violation sh (c .item))) l + count (λ c. 512 * px) l)
+          ≤ far (not k) (total (λ c. violation sh (c .item)) l) + far k nought + count (λ c. far k (violation sh (c .item))) l + count (λ c. 512 * px) l)
           → far (not g) (total (λ c. violation sh (c .item)) l) + far g nought + count (λ c. far g (violation sh (c .item))) l
           ≤ far g (total (λ c. violation sh (c .item)) l) + far (not g) nought + count (λ c. far (not g) (violation sh (c .item))) l + count (λ c. 512 * px) l
       sides true h = h false

@@ -181,9 +181,9 @@ module _ (ln : Line) (n have used : ℕ) (fx : Fixed ln n) (cells : List Cell) (
       go [] ok h = tt
       go (c ∷ l) ok h = (
         settled sh t c Done
-        (λ e. record { frozen = e; target = wide (subst (λ (b : Bool). Upto (262144 * px) (cond b (c .target) (c .item .base))) e (ok .0 .size)) })
-        (λ e d. record { frozen = refl; target = h .0 e })
-        (λ e d. absurd (true≢false (sym (f (violation sh (c .item))) ∙ d))),
+            (λ e. record { frozen = e; target = wide (subst (λ (b : Bool). Upto (262144 * px) (cond b (c .target) (c .item .base))) e (ok .0 .size)) })
+            (λ e d. record { frozen = refl; target = h .0 e })
+            (λ e d. absurd (true≢false (sym (f (violation sh (c .item))) ∙ d))),
         go l (ok .1) (h .1),
       )
 
@@ -238,7 +238,7 @@ module _ (ln : Line) (n have used : ℕ) (fx : Fixed ln n) (cells : List Cell) (
     near-ground : (k : ℕ) → k ≤ 8388608 → All (λ c. final sh c ≤ ground c + k * px) cells → All (λ c. c .frozen ≡ false → Upto (16777216 * px) (sized sh (c .item))) cells
     near-ground k l h =
         all-map {Q = λ c. c .frozen ≡ false → Upto (16777216 * px) (sized sh (c .item))} (λ c (r : (Sound (ln .growing) c × (c .frozen ≡ false → TurnOf g sh c)) × (final sh c ≤ ground c + k * px)) (z : c .frozen ≡ false).
-            one c (r .0 .0 .item) (r .0 .1 z) (subst (λ (b : Bool). cond b (far false (c .target)) (far false (sized sh (c .item))) ≤ cond b (far false (c .target)) (bounded (c .item) (far false (c .item .base))) + k * px) z (r .1))) cells
+        one c (r .0 .0 .item) (r .0 .1 z) (subst (λ (b : Bool). cond b (far false (c .target)) (far false (sized sh (c .item))) ≤ cond b (far false (c .target)) (bounded (c .item) (far false (c .item .base))) + k * px) z (r .1))) cells
         (all-both (λ c. Sound (ln .growing) c × (c .frozen ≡ false → TurnOf g sh c)) (λ c. final sh c ≤ ground c + k * px) cells
         (all-both (Sound (ln .growing)) (λ c. c .frozen ≡ false → TurnOf g sh c) cells (kp .sound) all-turns) h)
       where
@@ -347,8 +347,8 @@ module _ (ln : Line) (n have used : ℕ) (fx : Fixed ln n) (cells : List Cell) (
           (out-conserved sh cells (ln .growing) open-ok (917504 * px) (open-turns false e) (keeps false e a)) (parts-most false e) f z (space .largest) lv)))
       good f z (level a b u) = inr (done u (near-ground false e 3407873 (lit≤ tt)
           (all-map (λ c k. one (final sh c) (ground c) (count (final sh) cells) (count ground cells) (3407873 * px) k
-              (ends have used (count based cells) (count ground cells) (count (final sh) cells) (count (λ c. part false sh (c .item)) (left cells)) (far false (sh .free)) (far false r) (far true r) px
-              (out-conserved sh cells (ln .growing) open-ok (917504 * px) (open-turns false e) (keeps false e a)) (parts-most false e) f z (space .largest) (lv .0))) cells
+          (ends have used (count based cells) (count ground cells) (count (final sh) cells) (count (λ c. part false sh (c .item)) (left cells)) (far false (sh .free)) (far false r) (far true r) px
+          (out-conserved sh cells (ln .growing) open-ok (917504 * px) (open-turns false e) (keeps false e a)) (parts-most false e) f z (space .largest) (lv .0))) cells
           (count-one ground (final sh) cells (out-each (ln .growing) sh t cells (kp .sound) (all-turns false e))))))
 
       go : ((far false (sh .free) ≤ far false r) × (far true r ≡ 0)) ⊎ (FromInitial × (far false (sh .free) ≤ far true r) × (far false r ≡ 0)) → Outcome

@@ -64,7 +64,7 @@ module _ (g : Bool) (a c : ℕ) (C : 0 < c) where
   unfolding px
   round-num h =
       let v : HasValue (round binary32 g a c) g (grid binary32 a c) (2 ^ 149) = subst (λ (z : Float). HasValue z g (grid binary32 a c) (2 ^ 149)) (sym (round-is binary32 g a c))
-              (units-val binary32 g (kept 24 (a * 2 ^ 149) c) (drop 24 (a * 2 ^ 149) c) (lt-of-le-of-lt h (lit< tt))) in
+      (units-val binary32 g (kept 24 (a * 2 ^ 149) c) (drop 24 (a * 2 ^ 149) c) (lt-of-le-of-lt h (lit< tt))) in
       (record { sign = g; digits = kept 24 (a * 2 ^ 149) c; shift = drop 24 (a * 2 ^ 149) c; few = kept-le 24 (a * 2 ^ 149) c; value = v }, v)
 
 pub grid-same : (a b c d : ℕ) → 0 < b → 0 < d → a * d ≡ c * b → grid binary32 a b ≡ grid binary32 c d
@@ -134,9 +134,10 @@ one-side {x} p g = go (p .sign) (p .digits * 2 ^ p .shift) (p .value) g
 pub neg-num : {x : Float} → Num x → Num (neg x) × ((g : Bool) → far g (neg x) ≡ far (not g) x)
 unfolding neg
 neg-num {x} p =
-    let v : HasValue (neg x) (not (p .sign)) (p .digits * 2 ^ p .shift) px = turn x (p .sign) (p .digits * 2 ^ p .shift) (p .value) in
-    (record { sign = not (p .sign); digits = p .digits; shift = p .shift; few = p .few; value = v },
-     λ g. far-is g (neg x) (not (p .sign)) (p .digits * 2 ^ p .shift) v ∙ flip g (p .sign) (p .digits * 2 ^ p .shift) ∙ sym (far-is (not g) x (p .sign) (p .digits * 2 ^ p .shift) (p .value)))
+    let v : HasValue (neg x) (not (p .sign)) (p .digits * 2 ^ p .shift) px = turn x (p .sign) (p .digits * 2 ^ p .shift) (p .value) in (
+      record { sign = not (p .sign); digits = p .digits; shift = p .shift; few = p .few; value = v },
+      λ g. far-is g (neg x) (not (p .sign)) (p .digits * 2 ^ p .shift) v ∙ flip g (p .sign) (p .digits * 2 ^ p .shift) ∙ sym (far-is (not g) x (p .sign) (p .digits * 2 ^ p .shift) (p .value)),
+    )
   where
     turn : (x : Float) (s : Bool) (n : ℕ) → HasValue x s n px → HasValue (neg x) (not s) n px
     turn nan s n v = v

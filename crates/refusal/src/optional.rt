@@ -7,7 +7,8 @@ ghost use lib.Ieee.{nan};
 ghost use Rattle.refusal.specs.Domain.{float, code};
 ghost use Rattle.refusal.specs.Marks.{mark, leastOf, leastUpTo};
 ghost use Rattle.refusal.specs.Optional.{optional};
-use crate::{Kind, Mark};
+use crate::Kind;
+use crate::Mark;
 
 // The mark of a float that may be absent.
 pub fn mark_given(kind: Kind, x: f32, given: bool, place: u32) -> Mark
