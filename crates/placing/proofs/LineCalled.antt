@@ -25,7 +25,7 @@ use Rattle.placing.proofs.Marked.{container-two, judged-is, shaped}
 
 -- the marks of the three bounds, and of the gap and the wrap code
 pub cross-marks : (c : CrossNumbers) {a b d g w : ℕ} → a ≡ leastOf (boundNumbers (c .definite) (c .inner)) 0 → b ≡ leastOf (boundNumbers (c .floored) (c .minimum)) 0 → d ≡ leastOf (boundNumbers (c .capped) (c .maximum)) 0
-  → g ≡ mark (float Size (c .gap)) 0 → w ≡ mark (code 4 (c .wrap)) 0 → min a (min b (min d (min g w))) ≡ leastOf (crossNumbers c) 0
+    → g ≡ mark (float Size (c .gap)) 0 → w ≡ mark (code 4 (c .wrap)) 0 → min a (min b (min d (min g w))) ≡ leastOf (crossNumbers c) 0
 cross-marks c p q r s t =
     let plain = float Size (c .gap) ∷ code 4 (c .wrap) ∷ [] in
     let x = boundNumbers (c .definite) (c .inner) in
@@ -36,7 +36,7 @@ cross-marks c p q r s t =
 
 module _ (c : CrossNumbers) (alignment : ℕ) (lines : List Float) where
   pub lines-checked : {a k w : ℕ} → length lines ≤ 1024 → a ≡ mark (code 13 alignment) 0 → k ≡ leastOf (crossNumbers c) 0 → w ≡ leastUpTo (λ i. leastOf (workedAt lines i) (i + 1)) (length lines)
-    → judged (min (min a k) w) ≡ checked (linesInput c alignment lines) Passed
+      → judged (min (min a k) w) ≡ checked (linesInput c alignment lines) Passed
   unfolding leastOf
   lines-checked h p q r = ap judged (ap₂ min (ap₂ min p q) r) ∙ judged-is (linesInput c alignment lines) h
 

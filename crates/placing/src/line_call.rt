@@ -9,12 +9,22 @@ ghost use Rattle.refusal.specs.declared.Verdict.the-variants.{Passed};
 ghost use Rattle.placing.specs.Checks.{shapeOf};
 ghost use Rattle.placing.specs.LineCall.{boundOf, crossOf, boundNumbers, crossNumbers, linesInput, result, linesCall};
 use crate::align;
-use crate::checks::{has_room, is_alike, longer, mark_worked};
+use crate::checks::has_room;
+use crate::checks::is_alike;
+use crate::checks::longer;
+use crate::checks::mark_worked;
 use crate::cross_size;
-use crate::cross_size::{Bound, Cross};
+use crate::cross_size::Bound;
+use crate::cross_size::Cross;
 use crate::lines;
-use refusal::{Kind, Mark, Refusal, Verdict};
-use refusal::{judge, least, mark_code, mark_float};
+use refusal::Kind;
+use refusal::Mark;
+use refusal::Refusal;
+use refusal::Verdict;
+use refusal::judge;
+use refusal::least;
+use refusal::mark_code;
+use refusal::mark_float;
 
 // The container's cross axis in numbers: of the codes, 1 says that the inner size is definite, or that there is a minimum, or a maximum.
 pub struct CrossNumbers {
@@ -58,7 +68,10 @@ fn cross_of(c: CrossNumbers) -> Cross
 fn mark_bound(given: u32, x: f32) -> Mark
     ensures { λ r. ⌜ r .0 ≡ leastOf (boundNumbers given x) 0 ⌝ }
 {
-    least(mark_code(1, given, 0), refusal::optional::mark_given(Kind::Size, x, given == 1, 0))
+    least(
+        mark_code(1, given, 0),
+        refusal::optional::mark_given(Kind::Size, x, given == 1, 0),
+    )
 }
 
 fn mark_cross(c: CrossNumbers) -> Mark
@@ -67,14 +80,20 @@ fn mark_cross(c: CrossNumbers) -> Mark
     let plain = least(mark_float(Kind::Size, c.gap, 0), mark_code(4, c.wrap, 0));
     let maximum = mark_bound(c.capped, c.maximum);
     let minimum = mark_bound(c.floored, c.minimum);
-    least(mark_bound(c.definite, c.inner), least(minimum, least(maximum, plain)))
+    least(
+        mark_bound(c.definite, c.inner),
+        least(minimum, least(maximum, plain)),
+    )
 }
 
 // Checks 1 and 2.
 fn check_lines_shape(n: usize, sizes: usize, offsets: usize) -> Verdict
     ensures { λ r. ⌜ r ≡ shapeOf (n ∷ []) (sizes ∷ offsets ∷ []) n ⌝ }
 {
-    refusal::check_shape(longer(n, 0), has_room(n, sizes, has_room(n, offsets, is_alike(n, n, true))))
+    refusal::check_shape(
+        longer(n, 0),
+        has_room(n, sizes, has_room(n, offsets, is_alike(n, n, true))),
+    )
 }
 
 // Checks 3 to 5.
@@ -86,7 +105,13 @@ fn check_lines_numbers(c: CrossNumbers, alignment: u32, lines: &[f32]) -> Verdic
     judge(least(container, mark_worked(lines)))
 }
 
-pub fn place_lines(c: CrossNumbers, alignment: u32, lines: &[f32], sizes: &mut [f32], offsets: &mut [f32]) -> LinesAnswer
+pub fn place_lines(
+    c: CrossNumbers,
+    alignment: u32,
+    lines: &[f32],
+    sizes: &mut [f32],
+    offsets: &mut [f32],
+) -> LinesAnswer
     ensures { λ r. ⌜ result r (now (sizes .exit)) (now (offsets .exit)) ≡ linesCall c alignment (now (lines .entry)) (now (sizes .entry)) (now (offsets .entry)) ⌝ }
 {
     let shape = check_lines_shape(lines.len(), sizes.len(), offsets.len());
@@ -97,7 +122,13 @@ pub fn place_lines(c: CrossNumbers, alignment: u32, lines: &[f32], sizes: &mut [
             match numbers {
                 Verdict::Refused(why) => LinesAnswer::Refused(why),
                 Verdict::Passed => {
-                    let inner = lines::align_lines(cross_of(c), align::content_of(alignment), lines, sizes, offsets);
+                    let inner = lines::align_lines(
+                        cross_of(c),
+                        align::content_of(alignment),
+                        lines,
+                        sizes,
+                        offsets,
+                    );
                     LinesAnswer::Placed(inner)
                 }
             }
