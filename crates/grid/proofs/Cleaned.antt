@@ -12,7 +12,7 @@ use lib.Ieee.{Float, nan, inf, fin, Format, prec, emax, low, up, down, round, su
 use lib.Ieee.Fits.{up-pos, down-pos, and-r, add-fits}
 use lib.Ieee.Exact.{HasValue, round-exact}
 use borrow.Author.Tests.{lt-ltb, le-ltb}
-use Rattle.grid.specs.Grid.{At, none, cleaned}
+use Rattle.grid.specs.Grid.{signed, At, none, cleaned}
 use Rattle.grid.proofs.Meaning.{fits-size, pow-le}
 use Rattle.grid.proofs.Convert.{tidy, clean-at, sign-of}
 use Rattle.grid.proofs.Unique.{same-float}
@@ -75,3 +75,35 @@ clean-add f (fin s (suc m) e) t =
     sum-none f s (X * 1) (0 * 1 * d) (d * 1) (mul-pos (mul-pos (zero-lt-suc m) (up-pos e)) (zero-lt-suc 0)) (zero-mul d) ∙ ap₂ (λ (a b : ℕ). round f s a b) (mul-one X) (mul-one d) in
     same-float f (add f (fin s (suc m) e) none) (fin s (suc m) e) s X d (down-pos e) (add-fits f (fin s (suc m) e) none) t
     (subst (λ (y : Float). HasValue y s X d) (sym same) (round-own f s m e t)) (refl, refl)
+
+-- cleaning twice is cleaning once
+pub cleaned-twice : (x : Float) → cleaned (cleaned x) ≡ cleaned x
+unfolding cleaned
+cleaned-twice nan = refl
+cleaned-twice (inf s) = refl
+cleaned-twice (fin s zero e) = refl
+cleaned-twice (fin s (suc m) e) = refl
+
+-- what a float is does not turn on the sign of a zero
+pub cleaned-at : (u : ℕ) {x : Float} {z : ℤ} → At u x z → At u (cleaned x) z
+unfolding cleaned
+cleaned-at u {x} {z} p = go x (p .value)
+  where
+    nil : (k : ℕ) (e : ℤ) → 0 * up e * u ≡ k * down e → k ≡ 0
+    nil zero e h = refl
+    nil (suc k) e h = let l : 0 < suc k * down e = mul-pos (zero-lt-suc k) (down-pos e) in let o : 0 * up e * u ≡ 0 = ap (λ (n : ℕ). n * u) (zero-mul (up e)) ∙ zero-mul u in absurd (omega arith)
+
+    either : (s : Bool) → signed s 0 ≡ pos 0
+    either false = refl
+    either true = refl
+
+    go : (x : Float) → HasValue x (p .sign) (p .size) u → At u (cleaned x) z
+    go nan v = absurd v
+    go (inf s) v = absurd v
+    go (fin s zero e) v = record {
+      sign = false;
+      size = 0;
+      value = (refl, ap (λ (n : ℕ). n * u) (zero-mul (up e)) ∙ zero-mul u ∙ sym (zero-mul (down e)));
+      total = sym (either (p .sign)) ∙ ap (signed (p .sign)) (sym (nil (p .size) e (v .1))) ∙ p .total;
+    }
+    go (fin s (suc m) e) v = record { sign = p .sign; size = p .size; value = v; total = p .total }

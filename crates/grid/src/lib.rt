@@ -49,13 +49,13 @@ pub fn to_sixtyfourths(x: f32) -> Sixtyfourths
     Sixtyfourths((x * 64.0 + 0.0) as i32)
 }
 
-// A number of sixty-fourths as a length in pixels.
+// A number of sixty-fourths, at most 2^24 of them, as a length in pixels: 0 is 0.0.
 pub fn from_sixtyfourths(v: Sixtyfourths) -> f32
     requires { ⌜ natAbs (v .0) ≤ 16777216 ⌝ }
-    ensures { λ r. ⌜ At 64 r (v .0) ⌝ }
+    ensures { λ r. ⌜ At 64 r (v .0) × (cleaned r ≡ r) ⌝ }
 {
     let n = v.0;
-    (n as f32) * 0.015625
+    clean((n as f32) * 0.015625)
 }
 
 // x, and 0.0 for -0.0: the sum of -0.0 and 0.0 is 0.0, and adding 0.0 changes nothing else.
