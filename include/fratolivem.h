@@ -7,7 +7,7 @@
  *  - floats are in the default mode: rounded to nearest, subnormals not flushed to zero (no FTZ or DAZ on the calling thread).
  *
  * Lengths are pixels, whole multiples of 1/64, of at most 262,144 px either way; -0.0 reads as 0, and no answer is -0.0.
- * Sizes and limits may be negative, gaps may not. The sum over the items of (|size| + gap) is at most 262,144 px.
+ * Sizes and limits may be negative, gaps and bounds may not. The sum over the items of (|size| + gap) is at most 262,144 px.
  *
  * On acceptance the first n cells of `counts` hold the lines' item counts, and 0 past the last line; cells past these n are unchanged.
  * A refusal changes no lent cell.
@@ -65,7 +65,10 @@ typedef struct {
     float limit;   /* 0.0 unless the kind is DEFINITE */
 } fratolivem_limit;
 
-/* The limit that lines break against. Flags are 0 or 1. A bound whose flag is 0 is absent, and its number is not read. */
+/* The limit that lines break against. Flags are 0 or 1. A bound whose flag is 0 is absent, and its number is not read. The bounds are those
+ * of the container's inner main size. If the known main size is not definite: max-content. Else, with a maximum: the available number, or
+ * the maximum where there is none; lowered to the maximum if the main size is not definite; raised to the minimum. With no maximum the
+ * available space itself, but max-content for a number in a column whose main size is not definite. */
 fratolivem_limit fratolivem_break_limit(uint32_t known_is_definite, uint32_t main_is_definite, uint32_t is_row,
                                         uint32_t available_kind, float available, uint32_t has_minimum, float minimum,
                                         uint32_t has_maximum, float maximum);
