@@ -1,31 +1,28 @@
 -- An accepted line in units and in whole sixty-fourths: hypothetical outer sizes and their sum, the gaps, and the free space before flexing, each near what
 -- the floats give. Assumes nothing.
-use mathlib.Core.Path.{_≡_, refl, sym, ap, ap₂, _∙_, subst}
+use mathlib.Core.Path.{_≡_, refl, sym, ap, _∙_, subst}
 use mathlib.Core.Logic.{_⊎_, inl, inr}
-use mathlib.Core.Bool.{Bool, true, false, not, cond, _||_}
-use mathlib.Core.List.{List, [], _∷_, map}
-use Prim.Native.Nat.{ℕ, zero, suc, _+_, _-_, _*_, _/_, _^_, _≤_, _<_, zero-le}
-use native.Mathlib.Nat.{le-refl, le-trans, le-of-eq, mul-one, zero-mul, mul-comm, mul-assoc, mul-le-mul-right, mul-le-mul-left, le-of-mul-le-mul-right}
+use mathlib.Core.Bool.{Bool, true, false, not, cond}
+use mathlib.Core.List.{List, [], _∷_}
+use Prim.Native.Nat.{ℕ, zero, suc, _+_, _-_, _*_, _^_, _≤_, _<_, zero-le}
+use native.Mathlib.Nat.{le-trans, le-of-eq, mul-le-mul-right, le-of-mul-le-mul-right}
 use native.Mathlib.Omega.{arith}
 use lib.Dec.{T, ltb, ltb→lt, nltb→le, lit≤}
 use lib.ListN.{length}
-use lib.IntN.{ℤ, pos, negsuc, negℤ, natAbs, _+ℤ_, _-ℤ_, _*ℤ_, subℕ}
+use lib.IntN.{ℤ, pos, negsuc, negℤ, natAbs, _+ℤ_, _*ℤ_, subℕ}
 use lib.Signed.{ltZ}
-use lib.Ieee.{Float, nan, inf, fin, binary32, lt, eq, mul, ofInt}
+use lib.Ieee.{Float, nan, inf, fin, binary32, lt, ofInt}
 use Rattle.grid.specs.Grid.{sixtyFourths}
 use Rattle.flexing.specs.declared.Item.{Item}
-use Rattle.flexing.specs.declared.Line.{Line}
-use Rattle.flexing.specs.Flex.{Cell, raised, lowered, clamp, hypothetical, outerUnits, sumUnits, freeBefore, outerSum, grows, inflexible, factor, first, begun, gaps, remaining, lineOf, nought, _⊗_}
-use Rattle.reach.specs.Reach.{IsSize, IsMargin, IsItem, IsLine, Each}
+use Rattle.flexing.specs.Flex.{raised, lowered, clamp, hypothetical, outerUnits, sumUnits, freeBefore, outerSum, gaps, _⊗_}
+use Rattle.reach.specs.Reach.{IsSize, IsItem, Each}
 use Rattle.flexing.proofs.Signs.{All}
-use Rattle.reach.proofs.Units.{px, px-pos, Num, far, one-side, lt-num}
+use Rattle.reach.proofs.Units.{px, px-pos, Num, far}
 use Rattle.reach.proofs.Times.{product, product-near, product-close, mul-num, whole-num, nought-num}
-use Rattle.reach.proofs.Clamp.{Upto, bounded, bounded-small, clamp-num}
-use Rattle.reach.proofs.Totals.{all-map, count, count-map, count-same, count-alike, count-long}
-use Rattle.reach.proofs.Turn.{Fine, far-off, whole-of}
-use Rattle.reach.proofs.Space.{held, margin, Way, Sound, Room, room, haves, useds, sizes, Lies, margin-lies}
-use Rattle.reach.proofs.Levels.{ground, based, sizes-based, based-grows, based-shrinks}
-use Rattle.reach.proofs.Step.{Fixed, Kept, Level, Lean, Tame}
+use Rattle.reach.proofs.Clamp.{Upto, bounded, clamp-num}
+use Rattle.reach.proofs.Totals.{count}
+use Rattle.reach.proofs.Turn.{far-off, whole-of}
+use Rattle.reach.proofs.Space.{margin, sizes, margin-lies}
 use Rattle.reach.proofs.Domain.{unit, unit-px, plus, minus, Gridded, size-grid, size-upto, margin-grid, fine}
 
 -- ---- integers, above 0 and below it
@@ -168,9 +165,10 @@ unfolding count
 margins [] h = (zero-le, zero-le)
 margins (it ∷ l) h =
     let m = margin-lies (fine (h .0)) in
-    let r = margins l (h .1) in
-    (go (far false (margin it)) (far true (margin it)) (far false (it .start)) (far true (it .start)) (far false (it .end)) (far true (it .end)) (count (λ it. far false (margin it)) l) (count (λ it. far true (margin it)) l) (count (λ it. far false (it .start) + far false (it .end)) l) (count (λ it. far true (it .start) + far true (it .end)) l) (length l) px (m .near-f) (r .0),
-     go (far true (margin it)) (far false (margin it)) (far true (it .start)) (far false (it .start)) (far true (it .end)) (far false (it .end)) (count (λ it. far true (margin it)) l) (count (λ it. far false (margin it)) l) (count (λ it. far true (it .start) + far true (it .end)) l) (count (λ it. far false (it .start) + far false (it .end)) l) (length l) px (m .near-t) (r .1))
+    let r = margins l (h .1) in (
+      go (far false (margin it)) (far true (margin it)) (far false (it .start)) (far true (it .start)) (far false (it .end)) (far true (it .end)) (count (λ it. far false (margin it)) l) (count (λ it. far true (margin it)) l) (count (λ it. far false (it .start) + far false (it .end)) l) (count (λ it. far true (it .start) + far true (it .end)) l) (length l) px (m .near-f) (r .0),
+      go (far true (margin it)) (far false (margin it)) (far true (it .start)) (far false (it .start)) (far true (it .end)) (far false (it .end)) (count (λ it. far true (margin it)) l) (count (λ it. far false (margin it)) l) (count (λ it. far true (it .start) + far true (it .end)) l) (count (λ it. far false (it .start) + far false (it .end)) l) (length l) px (m .near-t) (r .1),
+    )
   where
     go : (m m' s s' e e' M M' S S' n p : ℕ) → m + s' + e' ≤ m' + s + e + p → M + S' ≤ M' + S + n * p → m + M + (s' + e' + S') ≤ m' + M' + (s + e + S) + suc n * p
     go m m' s s' e e' M M' S S' n p h k = omega arith
@@ -267,4 +265,3 @@ free-sides inner gap l s t =
   where
     go : (p m i j n o x y g h s t k : ℕ) → p + j + o ≡ m + i + n → j ≡ 0 → n ≡ y → o ≡ x → x + h + t ≡ y + g + s → g ≡ k → h ≡ 0 → p + (k + s) ≡ m + (i + t)
     go p m i j n o x y g h s t k a b c d e f q = omega arith
-

@@ -2,10 +2,10 @@
 -- free space, the clamped sizes come to no more than the bases and the free space, seen to that side. Assumes nothing.
 use mathlib.Core.Path.{_≡_, refl, sym, ap, ap₂, _∙_, subst}
 use mathlib.Core.Logic.{_⊎_, inl, inr}
-use mathlib.Core.Bool.{Bool, true, false, not, cond, true≢false, false≢true}
-use mathlib.Core.List.{List, [], _∷_, map}
-use Prim.Native.Nat.{ℕ, zero, suc, _+_, _-_, _*_, _^_, _≤_, _<_, zero-le}
-use native.Mathlib.Nat.{le-refl, le-trans, le-of-eq, mul-le-mul-right, eq-zero-or-pos}
+use mathlib.Core.Bool.{Bool, true, false, not, cond, true≢false}
+use mathlib.Core.List.{List, [], _∷_}
+use Prim.Native.Nat.{ℕ, suc, _+_, _*_, _^_, _≤_, _<_, zero-le}
+use native.Mathlib.Nat.{le-trans, le-of-eq, mul-le-mul-right}
 use native.Mathlib.Omega.{arith}
 use lib.Dec.{T, lit≤}
 use lib.ListN.{length}
@@ -16,12 +16,9 @@ use Rattle.flexing.specs.Flex.{Cell, left, total, flexed, clamp, violation, fre
 use Rattle.flexing.proofs.Signs.{All}
 use Rattle.reach.proofs.Units.{px, Num, far, one-side, lt-num}
 use Rattle.reach.proofs.Times.{nought-num}
-use Rattle.reach.proofs.Clamp.{Upto, bounded}
-use Rattle.reach.proofs.Totals.{all-map, count, count-all, count-most, count-none, count-long, Near, total-near}
-use Rattle.reach.proofs.Turn.{Fine, under, part, part-most, flexed-num, Shares, Turn, turn}
-use Rattle.reach.proofs.Parts.{parts}
-use Rattle.reach.proofs.Space.{held, Sound}
-use Rattle.reach.proofs.Limits.{all-left, left-short}
+use Rattle.reach.proofs.Totals.{all-map, count, count-long, Near, total-near}
+use Rattle.reach.proofs.Turn.{under, part, part-most, flexed-num, Shares, Turn, turn}
+use Rattle.reach.proofs.Space.{Sound}
 
 -- ---- lists
 
@@ -87,9 +84,6 @@ sign {t} p = go (lt nought t) refl (lt t nought) refl
 
     less : (y x o o' : ℕ) → o + y ≤ x + o' → o ≡ 0 → o' ≡ 0 → x ≡ 0 → y ≡ 0
     less y x o o' h e f z = omega arith
-
-    of : Float
-    of = nought
 
     yes : {b : Bool} → b ≡ true → T b
     yes e = subst T (sym e) tt
@@ -193,7 +187,7 @@ module _ (g : Bool) (sh : Share) (s : Shares g sh) (l : List Cell) (n : length l
   pub violations : Near (512 * px) violations-big (λ c. violation sh (c .item)) nought l (total (λ c. violation sh (c .item)) l)
   violations = total-near (512 * px) violations-big (λ c. violation sh (c .item)) nought l (nought-num .0) (all-map (λ c t. t .violated) l ts)
       (λ h. fits (far h nought) (count (λ c. far h (violation sh (c .item))) l) (count (λ c. part g sh (c .item)) l) (length l * (1048576 * px)) (count (λ c. 512 * px) l) (far g (sh .free)) px
-          (nought-num .1 h) (each-most h l ts) (mul-le-mul-right (1048576 * px) n) (le-trans (le-of-eq (count-long (512 * px) l)) (mul-le-mul-right (512 * px) n)) w (s .most))
+      (nought-num .1 h) (each-most h l ts) (mul-le-mul-right (1048576 * px) n) (le-trans (le-of-eq (count-long (512 * px) l)) (mul-le-mul-right (512 * px) n)) w (s .most))
     where
       fits : (o a d m k f p : ℕ) → o ≡ 0 → a ≤ d + m → m ≤ 1024 * (1048576 * p) → k ≤ 1024 * (512 * p) → 4096 * d ≤ 4097 * f + 4096 * p → f ≤ 1073741824 * p → o + a + k ≤ 16777216 * (512 * p)
       fits o a d m k f p h i j l u q = omega arith
@@ -208,7 +202,7 @@ module _ (g : Bool) (sh : Share) (s : Shares g sh) (l : List Cell) (n : length l
       (le-trans (le-of-eq (count-long (384 * px) l)) (mul-le-mul-right (384 * px) n)) (le-trans (le-of-eq (count-long (512 * px) l)) (mul-le-mul-right (512 * px) n))
     where
       sides : (g : Bool) → ((k : Bool) → far k (total (λ c. violation sh (c .item)) l) + far (not k) nought + count (λ c. far (not k) (violation sh (c .item))) l
-              ≤ far (not k) (total (λ c. violation sh (c .item)) l) + far k nought + count (λ c. far k (violation sh (c .item))) l + count (λ c. 512 * px) l)
+          ≤ far (not k) (total (λ c. violation sh (c .item)) l) + far k nought + count (λ c. far k (violation sh (c .item))) l + count (λ c. 512 * px) l)
           → far (not g) (total (λ c. violation sh (c .item)) l) + far g nought + count (λ c. far g (violation sh (c .item))) l
           ≤ far g (total (λ c. violation sh (c .item)) l) + far (not g) nought + count (λ c. far (not g) (violation sh (c .item))) l + count (λ c. 512 * px) l
       sides true h = h false

@@ -1,23 +1,22 @@
 -- The remaining free space of a round, in units: within 131,072 px of the exact one, and at most 2 ^ 30 px. Assumes nothing.
-use mathlib.Core.Path.{_≡_, refl, sym, ap, ap₂, _∙_, subst}
-use mathlib.Core.Logic.{_⊎_, inl, inr}
+use mathlib.Core.Path.{_≡_, refl, subst}
 use mathlib.Core.Bool.{Bool, true, false, not, cond}
 use mathlib.Core.List.{List, [], _∷_}
-use Prim.Native.Nat.{ℕ, zero, suc, _+_, _-_, _*_, _^_, _≤_, _<_, zero-le}
-use native.Mathlib.Nat.{le-refl, le-trans, le-of-eq, mul-le-mul-right}
+use Prim.Native.Nat.{ℕ, _+_, _*_, _^_, _≤_, zero-le}
+use native.Mathlib.Nat.{le-trans, le-of-eq, mul-le-mul-right}
 use native.Mathlib.Omega.{arith}
-use lib.Dec.{T, lit≤}
+use lib.Dec.{lit≤}
 use lib.ListN.{length}
 use lib.Ieee.{Float, binary32, add, sub, neg}
 use Rattle.flexing.specs.declared.Item.{Item}
-use Rattle.flexing.specs.Flex.{Cell, taken, total, sumFrom, nought, _⊕_, _⊖_}
+use Rattle.flexing.specs.Flex.{Cell, taken, total, nought, _⊕_, _⊖_}
 use Rattle.flexing.proofs.Signs.{All}
-use Rattle.reach.proofs.Units.{px, Num, far, one-side, neg-num}
+use Rattle.reach.proofs.Units.{px, Num, far, neg-num}
 use Rattle.reach.proofs.Plus.{Sum, sum-num, sum-near, sum-under}
 use Rattle.reach.proofs.Times.{nought-num}
 use Rattle.reach.proofs.Clamp.{Upto, bounded}
-use Rattle.reach.proofs.Totals.{all-map, count, count-all, count-most, count-none, count-long, Near, total-near, total-under}
-use Rattle.reach.proofs.Turn.{Fine, far-off, under, whole-of}
+use Rattle.reach.proofs.Totals.{all-map, count, count-most, count-none, count-long, Near, total-near, total-under}
+use Rattle.reach.proofs.Turn.{Fine, under, whole-of}
 
 -- ---- a cell
 
@@ -135,14 +134,14 @@ room g inner gaps cells I G ok n =
     let ms : count (λ c. 64 * px) cells ≤ 1024 * (64 * px) = le-trans (le-of-eq (count-long (64 * px) cells)) (mul-le-mul-right (64 * px) n) in
     let ps : count (λ c. px) cells ≤ 1024 * px = le-trans (le-of-eq (count-long px cells)) (mul-le-mul-right px n) in
     let N : Near (64 * px) big taken nought cells z = total-near (64 * px) big taken nought cells (nought-num .0) (all-map (λ c s. taken-lies s .num) cells ok)
-            (λ h. fits (far h nought) (count (λ c. far h (taken c)) cells) (count (λ c. 64 * px) cells) px (nought-num .1 h) (most h) ms) in
+    (λ h. fits (far h nought) (count (λ c. far h (taken c)) cells) (count (λ c. 64 * px) cells) px (nought-num .1 h) (most h) ms) in
     let zm : (h : Bool) → far h z ≤ 537000000 * px = λ h. small (far h z) (far h nought) (count (λ c. far h (taken c)) cells) (count (λ c. 64 * px) cells) px (total-under (64 * px) big taken nought cells z N h) (nought-num .1 h) (most h) ms in
     let Y : Sum gaps z (gaps ⊕ z) = sum-num (G .num) (N .num) (under 262145 (lit≤ tt) (whole-of G)) (under 1074000000 (lit≤ tt) (both-sides 537000000 1074000000 z zm refl)) in
     let yb : (h : Bool) → far h gaps + far h z ≤ 16777216 * (64 * px) = λ h. fit-y (far h gaps) (far h z) px (upto-sides G h) (zm h) in
     let ym : (h : Bool) → far h (gaps ⊕ z) ≤ 538000000 * px = λ h. most-y (far h (gaps ⊕ z)) (far h gaps) (far h z) px (sum-under Y (64 * px) yb h) (upto-sides G h) (zm h) in
     let e = neg-num (Y .num) in
     let R : Sum inner (neg (gaps ⊕ z)) (add binary32 inner (neg (gaps ⊕ z))) = sum-num (I .num) (e .0) (under 262144 (lit≤ tt) (whole-of I))
-            (under 1076000000 (lit≤ tt) (both-sides 538000000 1076000000 (neg (gaps ⊕ z)) (λ h. le-trans (le-of-eq (e .1 h)) (ym (not h))) refl)) in
+    (under 1076000000 (lit≤ tt) (both-sides 538000000 1076000000 (neg (gaps ⊕ z)) (λ h. le-trans (le-of-eq (e .1 h)) (ym (not h))) refl)) in
     let rb : (h : Bool) → far h inner + far h (neg (gaps ⊕ z)) ≤ 16777216 * (64 * px) = λ h. fit-r (far h inner) (far h (neg (gaps ⊕ z))) px (upto-sides I h) (le-trans (le-of-eq (e .1 h)) (ym (not h))) in
     let none : count (λ c. far true (held c)) cells ≡ 0 = count-none (λ c. far true (held c)) cells (all-map (λ c s. s .size .above) cells ok) in
     let r : Float = add binary32 inner (neg (gaps ⊕ z)) in

@@ -1,14 +1,14 @@
 -- Products and quotients of floats in units, by a factor that is not below 0: how far they are moved, and that they keep the order. Assumes nothing.
 use mathlib.Core.Path.{_≡_, refl, sym, ap, ap₂, _∙_, subst}
 use mathlib.Core.Logic.{_⊎_, inl, inr}
-use mathlib.Core.Bool.{Bool, true, false, not, cond, _&&_, Bool·beq, true≢false, false≢true}
-use Prim.Native.Nat.{ℕ, zero, suc, _+_, _-_, _*_, _/_, _%_, _^_, _≤_, _<_, zero-le}
-use native.Mathlib.Nat.{le-refl, le-trans, le-of-eq, le-antisymm, lt-of-lt-of-le, lt-of-le-of-lt, lt-irrefl, zero-lt-suc, add-zero, zero-add, mul-one, one-mul, zero-mul, mul-zero, mul-comm, mul-assoc, mul-right-comm, mul-left-comm, mul-mul-mul-comm, mul-le-mul, mul-le-mul-left, mul-le-mul-right, le-of-mul-le-mul-right, mul-pos, mul-div-cancel, eq-of-mul-eq-mul-right, eq-or-lt-of-le, eq-zero-or-pos, add-mul, mul-add}
+use mathlib.Core.Bool.{Bool, true, false, not, cond, true≢false}
+use Prim.Native.Nat.{ℕ, zero, suc, _+_, _*_, _^_, _≤_, _<_, zero-le}
+use native.Mathlib.Nat.{le-trans, le-of-eq, le-antisymm, lt-irrefl, zero-lt-suc, mul-one, one-mul, zero-mul, mul-mul-mul-comm, mul-le-mul, mul-le-mul-left, mul-le-mul-right, le-of-mul-le-mul-right, mul-pos, eq-of-mul-eq-mul-right}
 use native.Mathlib.Omega.{arith}
-use lib.Dec.{T, ltb, eqb, ltb→lt, nltb→le, lt→ltb, eqb→eq, lit<, lit≤}
-use lib.Pow.{pow-pos, pow-add}
-use lib.IntN.{ℤ, pos, negsuc, negℤ}
-use lib.Ieee.{Float, nan, inf, fin, Format, binary32, prec, emax, low, up, down, unlike, round, mul, div, eq, level, ofInt, ofBits}
+use lib.Dec.{T, eqb, eqb→eq, lit≤}
+use lib.Pow.{pow-pos}
+use lib.IntN.{pos}
+use lib.Ieee.{Float, nan, inf, fin, binary32, up, down, unlike, round, mul, div, eq, ofInt, ofBits}
 use lib.Ieee.Fits.{up-pos, down-pos}
 use lib.Ieee.Exact.{HasValue}
 use lib.Ieee.Scale.{grid}
@@ -16,7 +16,7 @@ use Rattle.grid.specs.Grid.{signed, At}
 use Rattle.grid.proofs.Exact.{eq-at, eqZ}
 use Rattle.flexing.specs.Flex.{nought, unity}
 use Rattle.reach.proofs.Rounding.{grid-mono, grid-held, grid-near}
-use Rattle.reach.proofs.Units.{px, px-pos, Num, side, far, far-is, fl, fl-near, fl-mono, fl-held, fl-zero, both, Held, round-num, grid-same, side-own, side-other, small, one-side}
+use Rattle.reach.proofs.Units.{px, px-pos, Num, side, far, far-is, fl, fl-zero, both, Held, round-num, grid-same, small}
 
 -- ---- in units
 
@@ -161,9 +161,9 @@ mul-num {x} {y} p q h k l = go x y (p .value) (q .value) h k l
     go (fin i m e) (fin j n d) v w h k l =
         let b = not-below (fin j n d) (q .sign) B w h in
         let r = product-of (p .sign) (q .sign) A B (m * up e * (n * up d)) (down e * down d) (mul-pos (down-pos e) (down-pos d))
-                (mul-mul-mul-comm (m * up e) (n * up d) px px ∙ ap₂ (λ (a b : ℕ). a * b) (v .1) (w .1) ∙ mul-mul-mul-comm A (down e) B (down d))
-                (b .0) (subst (λ (n : ℕ). n ≤ 1024 * px) (b .1) k)
-                (subst (λ (n : ℕ). n ≤ 2 ^ 239) (ap₂ (λ (a b : ℕ). a + b) (far-is false (fin i m e) (p .sign) A v) (far-is true (fin i m e) (p .sign) A v) ∙ both (p .sign) A) l) in
+        (mul-mul-mul-comm (m * up e) (n * up d) px px ∙ ap₂ (λ (a b : ℕ). a * b) (v .1) (w .1) ∙ mul-mul-mul-comm A (down e) B (down d))
+        (b .0) (subst (λ (n : ℕ). n ≤ 1024 * px) (b .1) k)
+        (subst (λ (n : ℕ). n ≤ 2 ^ 239) (ap₂ (λ (a b : ℕ). a + b) (far-is false (fin i m e) (p .sign) A v) (far-is true (fin i m e) (p .sign) A v) ∙ both (p .sign) A) l) in
         subst (λ (u : Bool). Product (fin i m e) (fin j n d) (round binary32 u (m * up e * (n * up d)) (down e * down d))) (sym (ap₂ unlike (v .0) (w .0)))
         (record { num = r .0; size = λ g. r .1 g ∙ ap₂ product (sym (far-is g (fin i m e) (p .sign) A v)) (sym (b .1)) })
 
@@ -246,7 +246,7 @@ div-num {x} {y} p q f h k l = go x y (p .value) (q .value) f h k l
         let B0 : 0 < B = subst (λ (n : ℕ). 0 < n) (b .1) k in
         let n0 : 0 < n = some n (up d) px B (down d) B0 (w .1) (down-pos d) in
         let r = quotient-of (p .sign) (q .sign) A B (m * up e * down d) (n * up d * down e) (mul-pos (mul-pos n0 (up-pos d)) (down-pos e)) B0
-                (cross (m * up e) (down d) (n * up d) (down e) A B px px-pos (v .1) (w .1)) (a .0) (b .0) (subst (λ (n : ℕ). n ≤ B) (a .1) (subst (λ (n : ℕ). far false (fin i m e) ≤ n) (b .1) l)) in
+        (cross (m * up e) (down d) (n * up d) (down e) A B px px-pos (v .1) (w .1)) (a .0) (b .0) (subst (λ (n : ℕ). n ≤ B) (a .1) (subst (λ (n : ℕ). far false (fin i m e) ≤ n) (b .1) l)) in
         subst (λ (z : Float). Quotient (fin i m e) (fin j n d) z) (sym (nonzero n (cond (eqb m 0) nan (inf (unlike i j))) (round binary32 (unlike i j) (m * up e * down d) (n * up d * down e)) n0))
         (subst (λ (u : Bool). Quotient (fin i m e) (fin j n d) (round binary32 u (m * up e * down d) (n * up d * down e))) (sym (ap₂ unlike (v .0) (w .0)))
         (record { num = r .0; above = r .1 ∙ ap₂ quotient (sym (a .1)) (sym (b .1)); below = r .2 }))
@@ -284,9 +284,10 @@ pub eq-nought : {x : Float} → Num x → (T (eq x nought) → (g : Bool) → fa
 eq-nought {x} p =
     let A = p .digits * 2 ^ p .shift in
     let z = zero-test (p .sign) A in
-    let e : eq x nought ≡ eqZ (signed (p .sign) A) (pos 0) = eq-at px px-pos (record { sign = p .sign; size = A; value = p .value; total = refl }) nought-at in
-    ((λ t g. far-is g x (p .sign) A (p .value) ∙ side-of-zero g (p .sign) A (z .0 (subst T e t))),
-     (λ t. subst (λ (n : ℕ). 0 < n) (sym (ap₂ (λ (a b : ℕ). a + b) (far-is false x (p .sign) A (p .value)) (far-is true x (p .sign) A (p .value)) ∙ both (p .sign) A)) (z .1 (subst (λ (b : Bool). T (not b)) e t))))
+    let e : eq x nought ≡ eqZ (signed (p .sign) A) (pos 0) = eq-at px px-pos (record { sign = p .sign; size = A; value = p .value; total = refl }) nought-at in (
+      (λ t g. far-is g x (p .sign) A (p .value) ∙ side-of-zero g (p .sign) A (z .0 (subst T e t))),
+      (λ t. subst (λ (n : ℕ). 0 < n) (sym (ap₂ (λ (a b : ℕ). a + b) (far-is false x (p .sign) A (p .value)) (far-is true x (p .sign) A (p .value)) ∙ both (p .sign) A)) (z .1 (subst (λ (b : Bool). T (not b)) e t))),
+    )
   where
     zero-test : (s : Bool) (A : ℕ) → (T (eqZ (signed s A) (pos 0)) → A ≡ 0) × (T (not (eqZ (signed s A) (pos 0))) → 0 < A)
     zero-test false zero = ((λ t. refl), (λ t. absurd t))

@@ -1,18 +1,18 @@
 -- One item in one round, in units: its weight, the size that it flexes to, the clamped size and the violation, each near the exact one. Assumes nothing.
-use mathlib.Core.Path.{_≡_, refl, sym, ap, ap₂, _∙_, subst}
+use mathlib.Core.Path.{_≡_, sym, ap, ap₂, _∙_}
 use mathlib.Core.Logic.{_⊎_, inl, inr}
 use mathlib.Core.Bool.{Bool, true, false, not, cond, _||_}
-use Prim.Native.Nat.{ℕ, zero, suc, _+_, _-_, _*_, _^_, _≤_, _<_, zero-le, min, max}
-use native.Mathlib.Nat.{le-refl, le-trans, le-of-eq, lt-irrefl, mul-le-mul-right, mul-le-mul-left, zero-mul, zero-add}
+use Prim.Native.Nat.{ℕ, _+_, _*_, _^_, _≤_, _<_, zero-le, max}
+use native.Mathlib.Nat.{le-refl, le-trans, le-of-eq, mul-le-mul-right, zero-add}
 use native.Mathlib.Omega.{arith}
 use lib.Dec.{T, lit≤}
-use lib.Ieee.{Float, binary32, lt, eq, add, sub, mul, div, neg}
+use lib.Ieee.{Float, binary32, eq, add, sub, neg}
 use Rattle.flexing.specs.declared.Item.{Item}
 use Rattle.flexing.specs.declared.Share.{Share}
-use Rattle.flexing.specs.Flex.{raised, clamp, innerBase, factor, weight, flexed, violation, nought, _⊕_, _⊖_, _⊗_, _⊘_}
-use Rattle.reach.proofs.Units.{px, px-pos, Num, far, fl, fl-near, held-num, one-side, neg-num}
+use Rattle.flexing.specs.Flex.{raised, clamp, innerBase, factor, weight, flexed, nought, _⊕_, _⊖_, _⊗_, _⊘_}
+use Rattle.reach.proofs.Units.{px, Num, far, fl, fl-near, held-num, one-side, neg-num}
 use Rattle.reach.proofs.Plus.{Sum, sum-num, sum-near, sum-under, sum-side, sum-keeps}
-use Rattle.reach.proofs.Times.{product, product-mono, product-within, product-zero, product-le, Product, mul-num, quotient, quotient-within, Quotient, div-num, nought-num, eq-nought}
+use Rattle.reach.proofs.Times.{product, product-within, product-zero, product-le, Product, mul-num, quotient, quotient-within, div-num, nought-num, eq-nought}
 use Rattle.reach.proofs.Clamp.{Upto, Sizes, raised-num, bounded, bounded-mono, bounded-under, clamp-num, floor, ceiling, raised-small, lowered-small}
 
 -- ---- what an item's numbers are
@@ -51,7 +51,7 @@ inner-num {it} f =
     let s = f .sizes in
     let e = neg-num (s .edges .num) in
     let r : Sum (it .base) (neg (it .edges)) (it .base ⊖ it .edges) = sum-num (s .base .num) (e .0) (under 262144 (lit≤ tt) (whole-of (s .base)))
-            (under 262144 (lit≤ tt) (le-trans (le-of-eq (ap₂ (λ (a b : ℕ). a + b) (e .1 false) (e .1 true))) (flip (far false (it .edges)) (far true (it .edges)) (262144 * px) (whole-of (s .edges))))) in
+    (under 262144 (lit≤ tt) (le-trans (le-of-eq (ap₂ (λ (a b : ℕ). a + b) (e .1 false) (e .1 true))) (flip (far false (it .edges)) (far true (it .edges)) (262144 * px) (whole-of (s .edges))))) in
     let z = raised-num (r .num) (nought-num .0) (nought-num .1 true) in
     let k = sum-keeps r (s .base .num) true (e .1 false ∙ s .edges .above) in
     record { num = z .0; above = z .1; most = le-trans (le-of-eq (z .2 ∙ ap (λ (n : ℕ). max (far false (it .base ⊖ it .edges)) n) (nought-num .1 false))) (least (far false (it .base ⊖ it .edges)) (far true (it .base ⊖ it .edges)) (far false (it .base)) (far true (it .base)) (262144 * px) k (s .base .most) (s .base .above) (one-side (r .num) true)) }
@@ -231,10 +231,10 @@ module _ (g : Bool) (d : ℕ) (it : Item) (x : Float) (f : Fine it) (m : Moved g
       let n = neg-num (m .num) in
       let cu : far false (clamp it x) ≤ far false x + 262144 * px = le-trans (le-of-eq (c .2)) (bounded-under (f .sizes) (far false x)) in
       let r : Sum (clamp it x) (neg x) (add binary32 (clamp it x) (neg x)) = sum-num (c .0) (n .0)
-              (under 1074266240 (lit≤ tt) (fit (far false (clamp it x)) (far true (clamp it x)) (far false x) (far true x) px cu (c .1) all-x))
-              (under 1074004096 (lit≤ tt) (turned (far false (neg x)) (far true (neg x)) (far false x) (far true x) (1074004096 * px) (n .1 false) (n .1 true) all-x)) in
+      (under 1074266240 (lit≤ tt) (fit (far false (clamp it x)) (far true (clamp it x)) (far false x) (far true x) px cu (c .1) all-x))
+      (under 1074004096 (lit≤ tt) (turned (far false (neg x)) (far true (neg x)) (far false x) (far true x) (1074004096 * px) (n .1 false) (n .1 true) all-x)) in
       let h : (k : Bool) → far k (clamp it x) + far k (neg x) ≤ 16777216 * (256 * px) = λ k. by-side k (λ k. far k (clamp it x) + far k (neg x) ≤ 16777216 * (256 * px))
-              (fit-f (far false (clamp it x)) (far false (neg x)) (far false x) (far true x) px cu (n .1 false) all-x) (fit-t (far true (clamp it x)) (far true (neg x)) (far false x) (far true x) px (c .1) (n .1 true) all-x) in
+      (fit-f (far false (clamp it x)) (far false (neg x)) (far false x) (far true x) px cu (n .1 false) all-x) (fit-t (far true (clamp it x)) (far true (neg x)) (far false x) (far true x) px (c .1) (n .1 true) all-x) in
       let v : Float = add binary32 (clamp it x) (neg x) in
       let w = m .whole in
       let B = f .sizes .base .most in

@@ -2,22 +2,21 @@
 -- How such a number is rounded, and what the other sign and a comparison are in units. Assumes nothing.
 use mathlib.Core.Path.{_≡_, refl, sym, ap, ap₂, _∙_, subst}
 use mathlib.Core.Logic.{_⊎_, inl, inr}
-use mathlib.Core.Bool.{Bool, true, false, not, cond, _&&_, Bool·beq, true≢false, false≢true}
-use Prim.Native.Nat.{ℕ, zero, suc, _+_, _-_, _*_, _/_, _%_, _^_, _≤_, _<_, zero-le}
-use native.Mathlib.Nat.{le-refl, le-trans, le-of-eq, le-antisymm, lt-of-lt-of-le, lt-of-le-of-lt, lt-irrefl, zero-lt-suc, add-zero, zero-add, mul-one, one-mul, zero-mul, mul-zero, mul-comm, mul-assoc, mul-right-comm, mul-left-comm, mul-mul-mul-comm, mul-le-mul-left, mul-le-mul-right, le-of-mul-le-mul-right, mul-pos, mul-div-cancel, eq-or-lt-of-le, eq-zero-or-pos}
+use mathlib.Core.Bool.{Bool, true, false, not, cond, Bool·beq}
+use Prim.Native.Nat.{ℕ, zero, suc, _+_, _*_, _/_, _^_, _≤_, _<_, zero-le}
+use native.Mathlib.Nat.{le-of-eq, le-antisymm, lt-of-le-of-lt, add-zero, zero-add, zero-mul, mul-le-mul-right, mul-div-cancel}
 use native.Mathlib.Omega.{arith}
-use lib.Dec.{T, ltb, eqb, ltb→lt, nltb→le, lt→ltb, eqb→eq, lit<, lit≤}
-use lib.Pow.{pow-pos, pow-add}
-use lib.IntN.{ℤ, pos, negsuc, negℤ}
+use lib.Dec.{T, ltb→lt, nltb→le, lit<}
+use lib.Pow.{pow-pos}
 use lib.Signed.{ltZ}
-use lib.Ieee.{Float, nan, inf, fin, Format, binary32, prec, emax, low, up, down, unlike, round, units, sum, add, sub, mul, div, neg, lt, eq, fits}
-use lib.Ieee.Fits.{up-pos, down-pos, round-is}
+use lib.Ieee.{Float, nan, inf, fin, binary32, up, down, round, neg, lt}
+use lib.Ieee.Fits.{down-pos, round-is}
 use lib.Ieee.Exact.{HasValue, units-val}
 use lib.Ieee.Order.{drop, kept}
-use lib.Ieee.Scale.{grid, overflow, finite}
+use lib.Ieee.Scale.{grid}
 use Rattle.grid.specs.Grid.{signed, At}
-use Rattle.grid.proofs.Exact.{left-of, right-of, sum-of, sub-of, less-of, lt-at, rescale}
-use Rattle.reach.proofs.Rounding.{kept-le, grid-mono, grid-held, grid-near, grid-near-whole}
+use Rattle.grid.proofs.Exact.{lt-at}
+use Rattle.reach.proofs.Rounding.{kept-le, grid-mono, grid-held, grid-near-whole}
 
 -- ---- units
 
@@ -64,7 +63,7 @@ module _ (g : Bool) (a c : ℕ) (C : 0 < c) where
   unfolding px
   round-num h =
       let v : HasValue (round binary32 g a c) g (grid binary32 a c) (2 ^ 149) = subst (λ (z : Float). HasValue z g (grid binary32 a c) (2 ^ 149)) (sym (round-is binary32 g a c))
-              (units-val binary32 g (kept 24 (a * 2 ^ 149) c) (drop 24 (a * 2 ^ 149) c) (lt-of-le-of-lt h (lit< tt))) in
+      (units-val binary32 g (kept 24 (a * 2 ^ 149) c) (drop 24 (a * 2 ^ 149) c) (lt-of-le-of-lt h (lit< tt))) in
       (record { sign = g; digits = kept 24 (a * 2 ^ 149) c; shift = drop 24 (a * 2 ^ 149) c; few = kept-le 24 (a * 2 ^ 149) c; value = v }, v)
 
 pub grid-same : (a b c d : ℕ) → 0 < b → 0 < d → a * d ≡ c * b → grid binary32 a b ≡ grid binary32 c d
@@ -134,9 +133,10 @@ one-side {x} p g = go (p .sign) (p .digits * 2 ^ p .shift) (p .value) g
 pub neg-num : {x : Float} → Num x → Num (neg x) × ((g : Bool) → far g (neg x) ≡ far (not g) x)
 unfolding neg
 neg-num {x} p =
-    let v : HasValue (neg x) (not (p .sign)) (p .digits * 2 ^ p .shift) px = turn x (p .sign) (p .digits * 2 ^ p .shift) (p .value) in
-    (record { sign = not (p .sign); digits = p .digits; shift = p .shift; few = p .few; value = v },
-     λ g. far-is g (neg x) (not (p .sign)) (p .digits * 2 ^ p .shift) v ∙ flip g (p .sign) (p .digits * 2 ^ p .shift) ∙ sym (far-is (not g) x (p .sign) (p .digits * 2 ^ p .shift) (p .value)))
+    let v : HasValue (neg x) (not (p .sign)) (p .digits * 2 ^ p .shift) px = turn x (p .sign) (p .digits * 2 ^ p .shift) (p .value) in (
+      record { sign = not (p .sign); digits = p .digits; shift = p .shift; few = p .few; value = v },
+      λ g. far-is g (neg x) (not (p .sign)) (p .digits * 2 ^ p .shift) v ∙ flip g (p .sign) (p .digits * 2 ^ p .shift) ∙ sym (far-is (not g) x (p .sign) (p .digits * 2 ^ p .shift) (p .value)),
+    )
   where
     turn : (x : Float) (s : Bool) (n : ℕ) → HasValue x s n px → HasValue (neg x) (not s) n px
     turn nan s n v = v
