@@ -1,19 +1,17 @@
 -- The numbers of an accepted line in units: sizes, margins and factors, and on the grid how many sixty-fourths they are. Assumes nothing.
 use mathlib.Core.Path.{_≡_, refl, sym, ap, ap₂, _∙_, subst}
 use mathlib.Core.Logic.{_⊎_, inl, inr}
-use mathlib.Core.Bool.{Bool, true, false, not, cond, _&&_}
-use mathlib.Core.List.{List, [], _∷_}
-use Prim.Native.Nat.{ℕ, zero, suc, _+_, _-_, _*_, _/_, _%_, _^_, _≤_, _<_, zero-le}
-use native.Mathlib.Nat.{le-refl, le-trans, le-of-eq, lt-irrefl, lt-of-lt-of-le, lt-of-not-le, le-of-suc-le-suc, mul-one, one-mul, zero-mul, mul-comm, mul-assoc, mul-right-comm, mul-le-mul-right, le-of-mul-le-mul-right, sub-add-cancel, add-zero}
+use mathlib.Core.Bool.{Bool, true, false, _&&_}
+use Prim.Native.Nat.{ℕ, zero, suc, _+_, _-_, _*_, _%_, _^_, _≤_, _<_, zero-le}
+use native.Mathlib.Nat.{le-refl, le-trans, le-of-eq, lt-irrefl, lt-of-lt-of-le, lt-of-not-le, le-of-suc-le-suc, mul-one, zero-mul, mul-assoc, mul-right-comm, mul-le-mul-right, le-of-mul-le-mul-right, sub-add-cancel}
 use native.Mathlib.Omega.{arith}
 use lib.Dec.{T, leb, ltb, eqb, leb→le, le→leb, ltb→lt, lit≤, lit<}
-use lib.Pow.{pow-add, pow-lt, pow-pos}
-use lib.IntN.{ℤ, pos, negsuc, negℤ, natAbs, _+ℤ_, _-ℤ_, _*ℤ_}
+use lib.Pow.{pow-add, pow-lt}
+use lib.IntN.{ℤ, pos, negsuc, natAbs}
 use lib.Signed.{leZ}
-use lib.Ieee.{Float, nan, inf, fin, Format, binary32, prec, low, emax, up, down, le, fits, ofBits}
-use lib.Ieee.Fits.{up-pos, down-pos, and-l, and-r}
+use lib.Ieee.{Float, nan, inf, fin, binary32, up, down, le, fits, ofBits}
+use lib.Ieee.Fits.{down-pos}
 use lib.Ieee.Exact.{HasValue}
-use lib.Ieee.Scale.{finite}
 use Rattle.grid.specs.Grid.{signed, At, onGrid, sixtyFourths, within, cleaned}
 use Rattle.grid.proofs.Exact.{rescale, le-at}
 use Rattle.grid.proofs.Meaning.{at-of-grid}
@@ -22,7 +20,7 @@ use Rattle.flexing.specs.declared.Item.{Item}
 use Rattle.flexing.specs.Flex.{nought}
 use Rattle.reach.specs.Reach.{IsSize, IsMargin, IsFactor, IsItem, HandedOn}
 use Rattle.reach.proofs.Units.{px, px-pos, Num, side, far, far-is, both}
-use Rattle.reach.proofs.Clamp.{Upto, Sizes}
+use Rattle.reach.proofs.Clamp.{Upto}
 use Rattle.reach.proofs.Turn.{Fine}
 
 -- ---- the range

@@ -1,14 +1,13 @@
 -- A round leaves no larger sum of the unfrozen items' factors: some go, and a rounded sum of numbers not below 0 keeps the order. Assumes nothing.
-use mathlib.Core.Path.{_≡_, refl, sym, ap, ap₂, _∙_, subst}
-use mathlib.Core.Bool.{Bool, true, false, not, cond}
+use mathlib.Core.Path.{_≡_, sym, ap₂, subst}
+use mathlib.Core.Bool.{Bool, true, false, cond}
 use mathlib.Core.List.{List, [], _∷_, map}
-use Prim.Native.Nat.{ℕ, zero, suc, _+_, _-_, _*_, _^_, _≤_, _<_, zero-le}
+use Prim.Native.Nat.{ℕ, _+_, _*_, _≤_, zero-le}
 use native.Mathlib.Nat.{le-refl, le-trans, le-of-eq, mul-le-mul-right}
 use native.Mathlib.Omega.{arith}
-use lib.Dec.{T, lit≤}
+use lib.Dec.{lit≤}
 use lib.ListN.{length}
 use lib.Ieee.{Float}
-use Rattle.flexing.specs.declared.Item.{Item}
 use Rattle.flexing.specs.declared.Share.{Share}
 use Rattle.flexing.specs.Flex.{Cell, left, sumFrom, total, factor, settle, nought, _⊕_}
 use Rattle.flexing.proofs.Signs.{All}
@@ -17,7 +16,7 @@ use Rattle.reach.proofs.Plus.{Sum, sum-num, sum-under, sum-above}
 use Rattle.reach.proofs.Times.{nought-num}
 use Rattle.reach.proofs.Clamp.{Upto}
 use Rattle.reach.proofs.Totals.{all-map, count, count-most, count-long}
-use Rattle.reach.proofs.Turn.{Fine, under, whole-of, factor-num}
+use Rattle.reach.proofs.Turn.{under, whole-of, factor-num}
 use Rattle.reach.proofs.Space.{Sound}
 use Rattle.reach.proofs.Settled.{settled}
 
@@ -33,9 +32,6 @@ added {x} {y} p q h =
     sides true = le-trans (le-of-eq (ap₂ (λ (a b : ℕ). a + b) (p .above) (q .above))) zero-le
 
 module _ (k : Bool) (sh : Share) (t : Float) where
-  abbrev f : Cell → Float
-  f c = factor k (c .item)
-
   room-first : (s a c d : ℕ) → s + (a + c) + (px + d) ≤ 16777216 * px → (s + a ≤ 16777216 * px) × (s ≤ 16777216 * px) × (a ≤ 16777216 * px) × (s + c + d ≤ 16777216 * px)
   room-first s a c d h = omega arith
 

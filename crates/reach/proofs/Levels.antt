@@ -1,23 +1,21 @@
 -- The sum of a line's sizes, hypothetical where an item is not frozen, against those sizes after a round: cell by cell, then summed. Assumes nothing.
 use mathlib.Core.Path.{_≡_, refl, sym, ap, ap₂, _∙_, subst}
 use mathlib.Core.Logic.{_⊎_, inl, inr}
-use mathlib.Core.Bool.{Bool, true, false, not, cond, true≢false, false≢true}
+use mathlib.Core.Bool.{Bool, true, false, cond, true≢false}
 use mathlib.Core.List.{List, [], _∷_, map}
-use Prim.Native.Nat.{ℕ, zero, suc, _+_, _-_, _*_, _^_, _≤_, _<_, zero-le}
-use native.Mathlib.Nat.{le-refl, le-trans, le-of-eq, mul-le-mul-right}
+use Prim.Native.Nat.{ℕ, _+_, _*_, _≤_}
+use native.Mathlib.Nat.{le-refl, le-trans, le-of-eq}
 use native.Mathlib.Omega.{arith}
-use lib.ListN.{length}
 use lib.Ieee.{Float, lt}
-use Rattle.flexing.specs.declared.Item.{Item}
 use Rattle.flexing.specs.declared.Share.{Share}
 use Rattle.flexing.specs.Flex.{Cell, left, violation, freezes, settle, nought}
 use Rattle.flexing.proofs.Signs.{All}
-use Rattle.reach.proofs.Units.{px, Num, far, one-side}
-use Rattle.reach.proofs.Clamp.{Upto, bounded, bounded-mono}
+use Rattle.reach.proofs.Units.{px, far, one-side}
+use Rattle.reach.proofs.Clamp.{bounded, bounded-mono}
 use Rattle.reach.proofs.Totals.{all-map, count, count-all, count-same, count-map, count-none, count-both}
-use Rattle.reach.proofs.Turn.{Fine, part, Turn}
-use Rattle.reach.proofs.Space.{held, Way, Sound, sizes}
-use Rattle.reach.proofs.Settled.{all-both, left-all, count-split, above-nought, below-nought, sized, settled, TurnOf}
+use Rattle.reach.proofs.Turn.{Fine, part}
+use Rattle.reach.proofs.Space.{held, Sound, sizes}
+use Rattle.reach.proofs.Settled.{all-both, count-split, above-nought, below-nought, sized, settled, TurnOf}
 
 -- ---- sizes of a cell
 

@@ -17,3 +17,4 @@ pub mod Outer
 pub mod Start
 pub mod Reach
 pub mod Line
+pub mod Example

@@ -1,25 +1,21 @@
 -- What a round shares out, in units: the remaining free space, or the part of the initial one that the factors leave; and the sum of the weights. Assumes nothing.
-use mathlib.Core.Path.{_≡_, refl, sym, ap, ap₂, _∙_, subst}
+use mathlib.Core.Path.{_≡_, refl, ap₂, _∙_}
 use mathlib.Core.Logic.{_⊎_, inl, inr}
 use mathlib.Core.Bool.{Bool, true, false, not, cond, _&&_}
 use mathlib.Core.List.{List, [], _∷_}
-use Prim.Native.Nat.{ℕ, zero, suc, _+_, _-_, _*_, _^_, _≤_, _<_, zero-le}
+use Prim.Native.Nat.{ℕ, suc, _+_, _*_, _^_, _≤_, _<_}
 use native.Mathlib.Nat.{le-refl, le-trans, le-of-eq, mul-le-mul-right}
 use native.Mathlib.Omega.{arith}
 use lib.Dec.{T, lit≤}
 use lib.ListN.{length}
-use lib.Ieee.{Float, binary32, lt, neg, mul}
-use Rattle.flexing.specs.declared.Item.{Item}
-use Rattle.flexing.specs.declared.Line.{Line}
-use Rattle.flexing.specs.declared.Share.{Share}
-use Rattle.flexing.specs.Flex.{Cell, magnitude, limited, share, left, total, factor, weight, taken, gaps, remaining, nought, unity, _⊕_, _⊖_, _⊗_}
+use lib.Ieee.{Float, lt, neg}
+use Rattle.flexing.specs.Flex.{Cell, magnitude, limited, left, total, factor, weight, nought, unity, _⊗_}
 use Rattle.flexing.proofs.Signs.{All}
 use Rattle.reach.proofs.Units.{px, Num, far, one-side, neg-num, lt-num}
 use Rattle.reach.proofs.Times.{product, Product, mul-num, nought-num, unity-num}
-use Rattle.reach.proofs.Clamp.{Upto}
 use Rattle.reach.proofs.Totals.{all-map, count, count-most, count-long, Above, total-above}
-use Rattle.reach.proofs.Turn.{Fine, far-off, under, factor-num, weight-num, Shares}
-use Rattle.reach.proofs.Space.{Sound, Room, room, haves, useds, sizes}
+use Rattle.reach.proofs.Turn.{under, factor-num, weight-num}
+use Rattle.reach.proofs.Space.{Sound}
 
 -- ---- the smaller in magnitude
 

@@ -1,9 +1,9 @@
 -- The call for one line: where it accepts, none of the checks refuses a target that it hands on. What the checks show of the numbers as they are read. Assumes nothing.
-use mathlib.Core.Path.{_≡_, refl, sym, ap, ap₂, _∙_, subst}
+use mathlib.Core.Path.{_≡_, refl, sym, ap, _∙_, subst}
 use mathlib.Core.Logic.{_⊎_, inl, inr}
-use mathlib.Core.Bool.{Bool, true, false, not, cond, _&&_, false≢true, true≢false}
+use mathlib.Core.Bool.{Bool, true, false, not, cond, _&&_, true≢false}
 use mathlib.Core.List.{List, [], _∷_, _++_, map}
-use Prim.Native.Nat.{ℕ, zero, suc, _+_, _*_, _^_, _≤_, _<_}
+use Prim.Native.Nat.{ℕ, zero, suc, _*_, _<_}
 use native.Mathlib.Nat.{le-trans, le-of-eq, zero-mul}
 use native.Mathlib.Omega.{arith}
 use lib.Dec.{T, eqb}
@@ -15,7 +15,7 @@ use lib.Ieee.Scale.{finite}
 use Rattle.grid.specs.declared.Sixtyfourths.{Sixtyfourths}
 use Rattle.grid.specs.Grid.{At, onGrid, within, cleaned}
 use Rattle.grid.proofs.Exact.{le-at}
-use Rattle.refusal.specs.Domain.{Number, float, code, notFinite, offGrid, outOfRange, inRange, summed, checked}
+use Rattle.refusal.specs.Domain.{float, code, notFinite, offGrid, outOfRange, inRange, summed, checked}
 use Rattle.refusal.specs.Optional.{optional}
 use Rattle.refusal.specs.Marks.{Fine, AllFine, Sound}
 use Rattle.refusal.specs.declared.Kind.the-variants as kind
@@ -24,7 +24,7 @@ use Rattle.refusal.proofs.Checks.{accepted, then-passed, summed-passed, fine-ap
 use Rattle.flexing.specs.declared.Item.{Item}
 use Rattle.flexing.specs.declared.FlexAnswer.the-variants.{Done}
 use Rattle.flexing.specs.declared.Line.{Line}
-use Rattle.flexing.specs.Flex.{Cell, Flexed, after, round, begun, first, grows, lineOf, targets, nought, outerSum}
+use Rattle.flexing.specs.Flex.{Cell, after, round, begun, first, grows, lineOf, targets, nought, outerSum}
 use Rattle.flexing.specs.Call.{Lists, count, each, itemAt, itemsOf, shapeOf, plainAt, besideAt, inputOf, lineVerdict, FlexedLine}
 use Rattle.flexing.proofs.Each.{length-each}
 use Rattle.flexing.proofs.Accept.{even-of}

@@ -1,31 +1,28 @@
 -- An accepted line in units and in whole sixty-fourths: hypothetical outer sizes and their sum, the gaps, and the free space before flexing, each near what
 -- the floats give. Assumes nothing.
-use mathlib.Core.Path.{_≡_, refl, sym, ap, ap₂, _∙_, subst}
+use mathlib.Core.Path.{_≡_, refl, sym, ap, _∙_, subst}
 use mathlib.Core.Logic.{_⊎_, inl, inr}
-use mathlib.Core.Bool.{Bool, true, false, not, cond, _||_}
-use mathlib.Core.List.{List, [], _∷_, map}
-use Prim.Native.Nat.{ℕ, zero, suc, _+_, _-_, _*_, _/_, _^_, _≤_, _<_, zero-le}
-use native.Mathlib.Nat.{le-refl, le-trans, le-of-eq, mul-one, zero-mul, mul-comm, mul-assoc, mul-le-mul-right, mul-le-mul-left, le-of-mul-le-mul-right}
+use mathlib.Core.Bool.{Bool, true, false, not, cond}
+use mathlib.Core.List.{List, [], _∷_}
+use Prim.Native.Nat.{ℕ, zero, suc, _+_, _-_, _*_, _^_, _≤_, _<_, zero-le}
+use native.Mathlib.Nat.{le-trans, le-of-eq, mul-le-mul-right, le-of-mul-le-mul-right}
 use native.Mathlib.Omega.{arith}
 use lib.Dec.{T, ltb, ltb→lt, nltb→le, lit≤}
 use lib.ListN.{length}
-use lib.IntN.{ℤ, pos, negsuc, negℤ, natAbs, _+ℤ_, _-ℤ_, _*ℤ_, subℕ}
+use lib.IntN.{ℤ, pos, negsuc, negℤ, natAbs, _+ℤ_, _*ℤ_, subℕ}
 use lib.Signed.{ltZ}
-use lib.Ieee.{Float, nan, inf, fin, binary32, lt, eq, mul, ofInt}
+use lib.Ieee.{Float, nan, inf, fin, binary32, lt, ofInt}
 use Rattle.grid.specs.Grid.{sixtyFourths}
 use Rattle.flexing.specs.declared.Item.{Item}
-use Rattle.flexing.specs.declared.Line.{Line}
-use Rattle.flexing.specs.Flex.{Cell, raised, lowered, clamp, hypothetical, outerUnits, sumUnits, freeBefore, outerSum, grows, inflexible, factor, first, begun, gaps, remaining, lineOf, nought, _⊗_}
-use Rattle.reach.specs.Reach.{IsSize, IsMargin, IsItem, IsLine, Each}
+use Rattle.flexing.specs.Flex.{raised, lowered, clamp, hypothetical, outerUnits, sumUnits, freeBefore, outerSum, gaps, _⊗_}
+use Rattle.reach.specs.Reach.{IsSize, IsItem, Each}
 use Rattle.flexing.proofs.Signs.{All}
-use Rattle.reach.proofs.Units.{px, px-pos, Num, far, one-side, lt-num}
+use Rattle.reach.proofs.Units.{px, px-pos, Num, far}
 use Rattle.reach.proofs.Times.{product, product-near, product-close, mul-num, whole-num, nought-num}
-use Rattle.reach.proofs.Clamp.{Upto, bounded, bounded-small, clamp-num}
-use Rattle.reach.proofs.Totals.{all-map, count, count-map, count-same, count-alike, count-long}
-use Rattle.reach.proofs.Turn.{Fine, far-off, whole-of}
-use Rattle.reach.proofs.Space.{held, margin, Way, Sound, Room, room, haves, useds, sizes, Lies, margin-lies}
-use Rattle.reach.proofs.Levels.{ground, based, sizes-based, based-grows, based-shrinks}
-use Rattle.reach.proofs.Step.{Fixed, Kept, Level, Lean, Tame}
+use Rattle.reach.proofs.Clamp.{Upto, bounded, clamp-num}
+use Rattle.reach.proofs.Totals.{count}
+use Rattle.reach.proofs.Turn.{far-off, whole-of}
+use Rattle.reach.proofs.Space.{margin, sizes, margin-lies}
 use Rattle.reach.proofs.Domain.{unit, unit-px, plus, minus, Gridded, size-grid, size-upto, margin-grid, fine}
 
 -- ---- integers, above 0 and below it

@@ -1,14 +1,14 @@
 -- The parts that a round shares out come to the free space but for 2 ^ -12 of it and a pixel. The weights' rounded sum is nearly their sum, each
 -- quotient and each product is nearly exact, and what is lost is summed up. Assumes nothing.
-use mathlib.Core.Path.{_≡_, refl, sym, ap, _∙_, subst}
+use mathlib.Core.Path.{_≡_, ap}
 use mathlib.Core.Bool.{Bool, true, false, not, cond, _||_}
 use mathlib.Core.List.{List, [], _∷_}
-use Prim.Native.Nat.{ℕ, zero, suc, _+_, _-_, _*_, _^_, _≤_, _<_, zero-le}
-use native.Mathlib.Nat.{le-refl, le-trans, le-of-eq, mul-le-mul-right, mul-le-mul-left, le-of-mul-le-mul-right, zero-mul}
+use Prim.Native.Nat.{ℕ, suc, _+_, _*_, _≤_, _<_}
+use native.Mathlib.Nat.{le-trans, le-of-eq, mul-le-mul-right, mul-le-mul-left, le-of-mul-le-mul-right}
 use native.Mathlib.Omega.{arith}
 use lib.Dec.{T, lit≤}
 use lib.ListN.{length}
-use lib.Ieee.{Float, eq}
+use lib.Ieee.{eq}
 use Rattle.flexing.specs.declared.Share.{Share}
 use Rattle.flexing.specs.Flex.{Cell, weight, nought}
 use Rattle.reach.proofs.Units.{px, px-pos, far}

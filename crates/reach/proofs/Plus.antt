@@ -2,23 +2,17 @@
 -- and that it keeps the order. Assumes nothing.
 use mathlib.Core.Path.{_≡_, refl, sym, ap, ap₂, _∙_, subst}
 use mathlib.Core.Logic.{_⊎_, inl, inr}
-use mathlib.Core.Bool.{Bool, true, false, not, cond, _&&_, Bool·beq, true≢false, false≢true}
-use Prim.Native.Nat.{ℕ, zero, suc, _+_, _-_, _*_, _/_, _%_, _^_, _≤_, _<_, zero-le}
-use native.Mathlib.Nat.{le-refl, le-trans, le-of-eq, le-antisymm, lt-of-lt-of-le, lt-of-le-of-lt, lt-irrefl, zero-lt-suc, add-zero, zero-add, mul-one, one-mul, zero-mul, mul-zero, mul-comm, mul-assoc, mul-right-comm, mul-left-comm, mul-mul-mul-comm, mul-le-mul-left, mul-le-mul-right, le-of-mul-le-mul-right, mul-pos, mul-div-cancel, eq-or-lt-of-le, eq-zero-or-pos}
+use mathlib.Core.Bool.{Bool, true, false, not, cond}
+use Prim.Native.Nat.{ℕ, _+_, _-_, _*_, _^_, _≤_, _<_}
+use native.Mathlib.Nat.{le-trans, mul-le-mul-right, le-of-mul-le-mul-right, mul-pos}
 use native.Mathlib.Omega.{arith}
-use lib.Dec.{T, ltb, eqb, ltb→lt, nltb→le, lt→ltb, eqb→eq, lit<, lit≤}
-use lib.Pow.{pow-pos, pow-add}
-use lib.IntN.{ℤ, pos, negsuc, negℤ}
-use lib.Signed.{ltZ}
-use lib.Ieee.{Float, nan, inf, fin, Format, binary32, prec, emax, low, up, down, unlike, round, units, sum, add, sub, mul, div, neg, lt, eq, fits}
-use lib.Ieee.Fits.{up-pos, down-pos, round-is}
-use lib.Ieee.Exact.{HasValue, units-val}
-use lib.Ieee.Order.{drop, kept}
-use lib.Ieee.Scale.{grid, overflow, finite}
-use Rattle.grid.specs.Grid.{signed, At}
-use Rattle.grid.proofs.Exact.{left-of, right-of, sum-of, sub-of, less-of, lt-at, rescale}
-use Rattle.reach.proofs.Rounding.{kept-le, grid-mono, grid-held, grid-near, grid-near-whole}
-use Rattle.reach.proofs.Units.{px, px-pos, Num, side, far, far-is, fl, fl-near, fl-mono, fl-zero, Held, held-num, grid-same, round-num, small, side-own, side-other, both, one-side}
+use lib.Dec.{T, ltb, ltb→lt, nltb→le}
+use lib.Ieee.{Float, nan, inf, fin, binary32, up, down, round, sum, add}
+use lib.Ieee.Fits.{down-pos}
+use lib.Ieee.Exact.{HasValue}
+use lib.Ieee.Scale.{grid}
+use Rattle.grid.proofs.Exact.{left-of, right-of, sum-of, sub-of, less-of}
+use Rattle.reach.proofs.Units.{px, px-pos, Num, side, far, far-is, fl, fl-near, fl-mono, fl-zero, held-num, grid-same, round-num, small, side-own, side-other, both, one-side}
 
 -- ---- the sum
 

@@ -1,11 +1,11 @@
 -- Every target of an accepted line is finite and at most 16,777,216 px, so a later step takes it: what the rounds keep, from their start to
 -- the round that freezes the last item. Assumes nothing.
-use mathlib.Core.Path.{_≡_, refl, sym, ap, _∙_, subst}
+use mathlib.Core.Path.{_≡_, refl, sym, _∙_, subst}
 use mathlib.Core.Logic.{_⊎_, inl, inr}
 use mathlib.Core.Bool.{Bool, true, false, cond, true≢false}
 use mathlib.Core.List.{List, [], _∷_, map}
 use Prim.Native.Nat.{ℕ, zero, suc, _*_}
-use native.Mathlib.Nat.{suc-ne-zero, mul-le-mul-right, le-trans}
+use native.Mathlib.Nat.{suc-ne-zero, mul-le-mul-right}
 use lib.Dec.{lit≤}
 use lib.ListN.{length}
 use lib.Ieee.{Float}

@@ -2,10 +2,10 @@
 -- free space, the clamped sizes come to no more than the bases and the free space, seen to that side. Assumes nothing.
 use mathlib.Core.Path.{_≡_, refl, sym, ap, ap₂, _∙_, subst}
 use mathlib.Core.Logic.{_⊎_, inl, inr}
-use mathlib.Core.Bool.{Bool, true, false, not, cond, true≢false, false≢true}
-use mathlib.Core.List.{List, [], _∷_, map}
-use Prim.Native.Nat.{ℕ, zero, suc, _+_, _-_, _*_, _^_, _≤_, _<_, zero-le}
-use native.Mathlib.Nat.{le-refl, le-trans, le-of-eq, mul-le-mul-right, eq-zero-or-pos}
+use mathlib.Core.Bool.{Bool, true, false, not, cond, true≢false}
+use mathlib.Core.List.{List, [], _∷_}
+use Prim.Native.Nat.{ℕ, suc, _+_, _*_, _^_, _≤_, _<_, zero-le}
+use native.Mathlib.Nat.{le-trans, le-of-eq, mul-le-mul-right}
 use native.Mathlib.Omega.{arith}
 use lib.Dec.{T, lit≤}
 use lib.ListN.{length}
@@ -16,12 +16,9 @@ use Rattle.flexing.specs.Flex.{Cell, left, total, flexed, clamp, violation, fre
 use Rattle.flexing.proofs.Signs.{All}
 use Rattle.reach.proofs.Units.{px, Num, far, one-side, lt-num}
 use Rattle.reach.proofs.Times.{nought-num}
-use Rattle.reach.proofs.Clamp.{Upto, bounded}
-use Rattle.reach.proofs.Totals.{all-map, count, count-all, count-most, count-none, count-long, Near, total-near}
-use Rattle.reach.proofs.Turn.{Fine, under, part, part-most, flexed-num, Shares, Turn, turn}
-use Rattle.reach.proofs.Parts.{parts}
-use Rattle.reach.proofs.Space.{held, Sound}
-use Rattle.reach.proofs.Limits.{all-left, left-short}
+use Rattle.reach.proofs.Totals.{all-map, count, count-long, Near, total-near}
+use Rattle.reach.proofs.Turn.{under, part, part-most, flexed-num, Shares, Turn, turn}
+use Rattle.reach.proofs.Space.{Sound}
 
 -- ---- lists
 
@@ -87,9 +84,6 @@ sign {t} p = go (lt nought t) refl (lt t nought) refl
 
     less : (y x o o' : ℕ) → o + y ≤ x + o' → o ≡ 0 → o' ≡ 0 → x ≡ 0 → y ≡ 0
     less y x o o' h e f z = omega arith
-
-    of : Float
-    of = nought
 
     yes : {b : Bool} → b ≡ true → T b
     yes e = subst T (sym e) tt

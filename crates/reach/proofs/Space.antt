@@ -1,23 +1,22 @@
 -- The remaining free space of a round, in units: within 131,072 px of the exact one, and at most 2 ^ 30 px. Assumes nothing.
-use mathlib.Core.Path.{_≡_, refl, sym, ap, ap₂, _∙_, subst}
-use mathlib.Core.Logic.{_⊎_, inl, inr}
+use mathlib.Core.Path.{_≡_, refl, subst}
 use mathlib.Core.Bool.{Bool, true, false, not, cond}
 use mathlib.Core.List.{List, [], _∷_}
-use Prim.Native.Nat.{ℕ, zero, suc, _+_, _-_, _*_, _^_, _≤_, _<_, zero-le}
-use native.Mathlib.Nat.{le-refl, le-trans, le-of-eq, mul-le-mul-right}
+use Prim.Native.Nat.{ℕ, _+_, _*_, _^_, _≤_, zero-le}
+use native.Mathlib.Nat.{le-trans, le-of-eq, mul-le-mul-right}
 use native.Mathlib.Omega.{arith}
-use lib.Dec.{T, lit≤}
+use lib.Dec.{lit≤}
 use lib.ListN.{length}
 use lib.Ieee.{Float, binary32, add, sub, neg}
 use Rattle.flexing.specs.declared.Item.{Item}
-use Rattle.flexing.specs.Flex.{Cell, taken, total, sumFrom, nought, _⊕_, _⊖_}
+use Rattle.flexing.specs.Flex.{Cell, taken, total, nought, _⊕_, _⊖_}
 use Rattle.flexing.proofs.Signs.{All}
-use Rattle.reach.proofs.Units.{px, Num, far, one-side, neg-num}
+use Rattle.reach.proofs.Units.{px, Num, far, neg-num}
 use Rattle.reach.proofs.Plus.{Sum, sum-num, sum-near, sum-under}
 use Rattle.reach.proofs.Times.{nought-num}
 use Rattle.reach.proofs.Clamp.{Upto, bounded}
-use Rattle.reach.proofs.Totals.{all-map, count, count-all, count-most, count-none, count-long, Near, total-near, total-under}
-use Rattle.reach.proofs.Turn.{Fine, far-off, under, whole-of}
+use Rattle.reach.proofs.Totals.{all-map, count, count-most, count-none, count-long, Near, total-near, total-under}
+use Rattle.reach.proofs.Turn.{Fine, under, whole-of}
 
 -- ---- a cell
 

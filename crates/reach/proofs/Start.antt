@@ -1,32 +1,27 @@
 -- Where the rounds of an accepted line start: sound cells, at a level that the line's sum and its free space in sixty-fourths give. Assumes nothing.
-use mathlib.Core.Path.{_≡_, refl, sym, ap, ap₂, _∙_, subst}
-use mathlib.Core.Logic.{_⊎_, inl, inr}
+use mathlib.Core.Path.{_≡_, refl, sym, ap, _∙_, subst}
+use mathlib.Core.Logic.{inr}
 use mathlib.Core.Bool.{Bool, true, false, not, cond, _||_}
 use mathlib.Core.List.{List, [], _∷_, map}
-use Prim.Native.Nat.{ℕ, zero, suc, _+_, _-_, _*_, _/_, _^_, _≤_, _<_, zero-le}
-use native.Mathlib.Nat.{le-refl, le-trans, le-of-eq, mul-one, zero-mul, mul-comm, mul-assoc, mul-le-mul-right, mul-le-mul-left, le-of-mul-le-mul-right}
+use Prim.Native.Nat.{ℕ, suc, _+_, _-_, _*_, _≤_}
+use native.Mathlib.Nat.{le-trans, le-of-eq, mul-le-mul-right}
 use native.Mathlib.Omega.{arith}
-use lib.Dec.{T, ltb, ltb→lt, nltb→le, lit≤}
+use lib.Dec.{T}
 use lib.ListN.{length}
-use lib.IntN.{ℤ, pos, negsuc, negℤ, natAbs, _+ℤ_, _-ℤ_, _*ℤ_, subℕ}
-use lib.Signed.{ltZ}
-use lib.Ieee.{Float, nan, inf, fin, binary32, lt, eq, mul, ofInt}
+use lib.Ieee.{Float, lt, eq}
 use Rattle.grid.specs.Grid.{sixtyFourths}
 use Rattle.flexing.specs.declared.Item.{Item}
-use Rattle.flexing.specs.declared.Line.{Line}
-use Rattle.flexing.specs.Flex.{Cell, raised, lowered, clamp, hypothetical, outerUnits, sumUnits, freeBefore, outerSum, grows, inflexible, factor, first, begun, gaps, remaining, lineOf, nought, _⊗_}
-use Rattle.reach.specs.Reach.{IsSize, IsMargin, IsItem, IsLine, Each}
+use Rattle.flexing.specs.Flex.{Cell, hypothetical, outerUnits, sumUnits, freeBefore, grows, inflexible, factor, first, begun, gaps, remaining, lineOf, nought}
+use Rattle.reach.specs.Reach.{IsItem, IsLine}
 use Rattle.flexing.proofs.Signs.{All}
-use Rattle.reach.proofs.Units.{px, px-pos, Num, far, one-side, lt-num}
-use Rattle.reach.proofs.Times.{product, product-near, product-close, mul-num, whole-num, nought-num}
-use Rattle.reach.proofs.Clamp.{Upto, bounded, bounded-small, clamp-num}
-use Rattle.reach.proofs.Totals.{all-map, count, count-map, count-same, count-alike, count-long}
-use Rattle.reach.proofs.Turn.{Fine, far-off, whole-of}
-use Rattle.reach.proofs.Space.{held, margin, Way, Sound, Room, room, haves, useds, sizes, Lies, margin-lies}
+use Rattle.reach.proofs.Units.{px, far, lt-num}
+use Rattle.reach.proofs.Clamp.{Upto, bounded, bounded-small}
+use Rattle.reach.proofs.Totals.{all-map, count, count-map, count-alike}
+use Rattle.reach.proofs.Space.{margin, Way, Sound, Room, room, haves, useds, sizes}
 use Rattle.reach.proofs.Levels.{ground, based, sizes-based, based-grows, based-shrinks}
-use Rattle.reach.proofs.Step.{Fixed, Kept, Level, Lean, Tame}
-use Rattle.reach.proofs.Domain.{unit, unit-px, plus, minus, Gridded, size-grid, size-upto, margin-grid, fine}
-use Rattle.reach.proofs.Outer.{add-sides, above-zero, hypothetical-far, each-all, sum-sides, sum-small, all-sides, margins, Gaps, gaps-near, free-sides}
+use Rattle.reach.proofs.Step.{Fixed, Kept, Level, Lean}
+use Rattle.reach.proofs.Domain.{unit, unit-px, plus, minus, size-grid, size-upto, fine}
+use Rattle.reach.proofs.Outer.{above-zero, hypothetical-far, each-all, sum-sides, sum-small, all-sides, margins, Gaps, gaps-near, free-sides}
 
 -- ---- the cells
 
@@ -42,9 +37,6 @@ first-sound g {it} i = record {
   way = λ e. way g (or-false (eq (factor g it) nought) (cond g (lt (hypothetical it) (it .base)) (lt (it .base) (hypothetical it))) e);
 }
   where
-    B : Upto (262144 * px) (it .base)
-    B = size-upto (i .base)
-
     go : (b : Bool) → Upto (262144 * px) (cond b (hypothetical it) (it .base))
     go true = record { num = hypothetical-far i .0; above = hypothetical-far i .1; most = le-trans (le-of-eq (hypothetical-far i .2)) (bounded-small (fine i .sizes) (far false (it .base)) (size-upto (i .base) .most)) }
     go false = size-upto (i .base)
@@ -83,14 +75,8 @@ module _ (inner gap : Float) (items : List Item) (line : IsLine inner gap items)
   ok : All IsItem items
   ok = each-all IsItem items (line .items-are)
 
-  abbrev g : Bool
-  g = grows inner gap items
-
   abbrev cells : List Cell
   cells = begun inner gap items
-
-  abbrev n : ℕ
-  n = length items
 
   small : count (λ it. minus (outerUnits it)) items + length items * plus (sixtyFourths gap) ≤ 16777216
   small = le-trans (sum-small gap items) (line .sum)

@@ -2,29 +2,29 @@
 -- what the container gives (`Level`), or little is shared out from there on (`Tame`). So the last round's targets are at most 16,777,216 px. Assumes nothing.
 use mathlib.Core.Path.{_≡_, refl, sym, ap, ap₂, _∙_, subst}
 use mathlib.Core.Logic.{_⊎_, inl, inr}
-use mathlib.Core.Bool.{Bool, true, false, not, cond, true≢false, false≢true}
+use mathlib.Core.Bool.{Bool, true, false, not, cond, true≢false}
 use mathlib.Core.List.{List, [], _∷_, map}
-use Prim.Native.Nat.{ℕ, zero, suc, _+_, _-_, _*_, _^_, _≤_, _<_, zero-le}
+use Prim.Native.Nat.{ℕ, suc, _+_, _*_, _≤_, _<_, zero-le}
 use native.Mathlib.Nat.{le-refl, le-trans, le-of-eq, lt-of-le-of-lt, mul-le-mul-right}
 use native.Mathlib.Omega.{arith}
-use lib.Dec.{T, lit≤}
+use lib.Dec.{lit≤}
 use lib.ListN.{length}
-use lib.Ieee.{Float, lt}
+use lib.Ieee.{Float}
 use Rattle.flexing.specs.declared.Item.{Item}
 use Rattle.flexing.specs.declared.Line.{Line}
 use Rattle.flexing.specs.declared.Share.{Share}
 use Rattle.flexing.specs.Flex.{Cell, left, total, factor, weight, gaps, remaining, share, flexed, violation, freezes, settle, round, nought}
 use Rattle.flexing.proofs.Signs.{All}
 use Rattle.reach.proofs.Units.{px, Num, far, held-num, one-side}
-use Rattle.reach.proofs.Times.{product, product-mono, product-within, product-zero, nought-num}
+use Rattle.reach.proofs.Times.{product, product-mono, product-within, product-zero}
 use Rattle.reach.proofs.Clamp.{Upto, bounded, bounded-under}
-use Rattle.reach.proofs.Totals.{all-map, count, count-map, count-same, count-long, count-one, Above, Near}
-use Rattle.reach.proofs.Turn.{Fine, far-off, under, part, part-most, Shares, Turn}
+use Rattle.reach.proofs.Totals.{all-map, count, count-map, count-same, count-long, count-one, Above}
+use Rattle.reach.proofs.Turn.{Fine, far-off, under, part, part-most, Shares}
 use Rattle.reach.proofs.Parts.{parts}
-use Rattle.reach.proofs.Space.{held, margin, Sound, Room, room, haves, useds, sizes}
-use Rattle.reach.proofs.Limits.{Limited, limited-num, all-left, left-short, factors, weights, factors-big, weights-big}
+use Rattle.reach.proofs.Space.{margin, Sound, Room, room, haves, useds, sizes}
+use Rattle.reach.proofs.Limits.{Limited, limited-num, all-left, left-short, factors, weights, weights-big}
 use Rattle.reach.proofs.Settled.{all-both, left-all, Sign, up, down, level, sign, sized, settled, TurnOf, turns, violations, conserved}
-use Rattle.reach.proofs.Levels.{ground, final, based, sizes-based, based-grows, based-shrinks, Up, Down, sounds-up, sounds-down, grounds-up, grounds-down, out-ground, out-final, out-each, back-ground, back-final, back-each, back-based, out-conserved, back-conserved}
+use Rattle.reach.proofs.Levels.{ground, final, based, sizes-based, based-grows, based-shrinks, Up, sounds-up, sounds-down, grounds-up, grounds-down, out-ground, out-final, out-each, back-ground, back-final, back-each, back-based, out-conserved, back-conserved}
 use Rattle.reach.proofs.Fewer.{fewer-factors}
 
 -- ---- what is kept
@@ -106,15 +106,15 @@ module _ (ln : Line) (n have used : ℕ) (fx : Fixed ln n) (cells : List Cell) (
       go (inl e) h k = omega arith
       go (inr e) h k = omega arith
 
-  by-side : (g h : Bool) (x : Float) (k : ℕ) → far false x + far true x ≤ k → far g x ≤ k
-  by-side false h x k l = omega arith
-  by-side true h x k l = omega arith
+  by-side : (g : Bool) (x : Float) (k : ℕ) → far false x + far true x ≤ k → far g x ≤ k
+  by-side false x k l = omega arith
+  by-side true x k l = omega arith
 
   shares : (g : Bool) → far (not g) (share ln cells .free) ≡ 0 → Shares g (share ln cells)
   shares g e = record {
     free = limit .num;
     other = e;
-    most = by-side g g (share ln cells .free) (1073741824 * px) free-most;
+    most = by-side g (share ln cells .free) (1073741824 * px) free-most;
     weights = weighed .num;
     weights-above = weighed .none;
   }
@@ -259,7 +259,7 @@ module _ (ln : Line) (n have used : ℕ) (fx : Fixed ln n) (cells : List Cell) (
         go : Sign t → Kept ln n have used cells' ⊎ All Done cells'
         go (up a f) = inl (kept (sounds-up (ln .growing) sh t cells (kp .sound) g all-turns f) (inl (tamer m)))
         go (down a b f) = inl (kept (sounds-down (ln .growing) sh t cells (kp .sound) g all-turns f) (inl (tamer m)))
-        go (level a b f) = inr (done f (few-shared (le-trans (by-side g g (sh .free) (far false (sh .free) + far true (sh .free)) (le-refl (far false (sh .free) + far true (sh .free)))) (le-trans (limit .under-part (m .below)) (m .little)))))
+        go (level a b f) = inr (done f (few-shared (le-trans (by-side g (sh .free) (far false (sh .free) + far true (sh .free)) (le-refl (far false (sh .free) + far true (sh .free)))) (le-trans (limit .under-part (m .below)) (m .little)))))
 
   -- ---- where the line is level
 

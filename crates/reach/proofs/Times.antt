@@ -1,14 +1,14 @@
 -- Products and quotients of floats in units, by a factor that is not below 0: how far they are moved, and that they keep the order. Assumes nothing.
 use mathlib.Core.Path.{_≡_, refl, sym, ap, ap₂, _∙_, subst}
 use mathlib.Core.Logic.{_⊎_, inl, inr}
-use mathlib.Core.Bool.{Bool, true, false, not, cond, _&&_, Bool·beq, true≢false, false≢true}
-use Prim.Native.Nat.{ℕ, zero, suc, _+_, _-_, _*_, _/_, _%_, _^_, _≤_, _<_, zero-le}
-use native.Mathlib.Nat.{le-refl, le-trans, le-of-eq, le-antisymm, lt-of-lt-of-le, lt-of-le-of-lt, lt-irrefl, zero-lt-suc, add-zero, zero-add, mul-one, one-mul, zero-mul, mul-zero, mul-comm, mul-assoc, mul-right-comm, mul-left-comm, mul-mul-mul-comm, mul-le-mul, mul-le-mul-left, mul-le-mul-right, le-of-mul-le-mul-right, mul-pos, mul-div-cancel, eq-of-mul-eq-mul-right, eq-or-lt-of-le, eq-zero-or-pos, add-mul, mul-add}
+use mathlib.Core.Bool.{Bool, true, false, not, cond, true≢false}
+use Prim.Native.Nat.{ℕ, zero, suc, _+_, _*_, _^_, _≤_, _<_, zero-le}
+use native.Mathlib.Nat.{le-trans, le-of-eq, le-antisymm, lt-irrefl, zero-lt-suc, mul-one, one-mul, zero-mul, mul-mul-mul-comm, mul-le-mul, mul-le-mul-left, mul-le-mul-right, le-of-mul-le-mul-right, mul-pos, eq-of-mul-eq-mul-right}
 use native.Mathlib.Omega.{arith}
-use lib.Dec.{T, ltb, eqb, ltb→lt, nltb→le, lt→ltb, eqb→eq, lit<, lit≤}
-use lib.Pow.{pow-pos, pow-add}
-use lib.IntN.{ℤ, pos, negsuc, negℤ}
-use lib.Ieee.{Float, nan, inf, fin, Format, binary32, prec, emax, low, up, down, unlike, round, mul, div, eq, level, ofInt, ofBits}
+use lib.Dec.{T, eqb, eqb→eq, lit≤}
+use lib.Pow.{pow-pos}
+use lib.IntN.{pos}
+use lib.Ieee.{Float, nan, inf, fin, binary32, up, down, unlike, round, mul, div, eq, ofInt, ofBits}
 use lib.Ieee.Fits.{up-pos, down-pos}
 use lib.Ieee.Exact.{HasValue}
 use lib.Ieee.Scale.{grid}
@@ -16,7 +16,7 @@ use Rattle.grid.specs.Grid.{signed, At}
 use Rattle.grid.proofs.Exact.{eq-at, eqZ}
 use Rattle.flexing.specs.Flex.{nought, unity}
 use Rattle.reach.proofs.Rounding.{grid-mono, grid-held, grid-near}
-use Rattle.reach.proofs.Units.{px, px-pos, Num, side, far, far-is, fl, fl-near, fl-mono, fl-held, fl-zero, both, Held, round-num, grid-same, side-own, side-other, small, one-side}
+use Rattle.reach.proofs.Units.{px, px-pos, Num, side, far, far-is, fl, fl-zero, both, Held, round-num, grid-same, small}
 
 -- ---- in units
 

@@ -2,13 +2,13 @@
 -- and nearly their exact sum. By induction over the list, a rounding at a time. Assumes nothing.
 use mathlib.Core.Path.{_≡_, refl, sym, ap, ap₂, _∙_, subst}
 use mathlib.Core.Logic.{_⊎_, inl, inr}
-use mathlib.Core.Bool.{Bool, true, false, not, cond}
+use mathlib.Core.Bool.{Bool, true, false, not}
 use mathlib.Core.List.{List, [], _∷_, map}
-use Prim.Native.Nat.{ℕ, zero, suc, _+_, _-_, _*_, _^_, _≤_, _<_, zero-le}
+use Prim.Native.Nat.{ℕ, suc, _+_, _*_, _^_, _≤_, zero-le}
 use native.Mathlib.Nat.{le-refl, le-trans, le-of-eq, zero-mul, mul-le-mul-right}
 use native.Mathlib.Omega.{arith}
 use lib.ListN.{length}
-use lib.Ieee.{Float, binary32, add}
+use lib.Ieee.{Float}
 use Rattle.flexing.specs.Flex.{sumFrom, _⊕_}
 use Rattle.flexing.proofs.Signs.{All}
 use Rattle.reach.proofs.Units.{Num, far, fl, fl-near, fl-mono, held-num, one-side}

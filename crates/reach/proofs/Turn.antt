@@ -1,18 +1,18 @@
 -- One item in one round, in units: its weight, the size that it flexes to, the clamped size and the violation, each near the exact one. Assumes nothing.
-use mathlib.Core.Path.{_≡_, refl, sym, ap, ap₂, _∙_, subst}
+use mathlib.Core.Path.{_≡_, sym, ap, ap₂, _∙_}
 use mathlib.Core.Logic.{_⊎_, inl, inr}
 use mathlib.Core.Bool.{Bool, true, false, not, cond, _||_}
-use Prim.Native.Nat.{ℕ, zero, suc, _+_, _-_, _*_, _^_, _≤_, _<_, zero-le, min, max}
-use native.Mathlib.Nat.{le-refl, le-trans, le-of-eq, lt-irrefl, mul-le-mul-right, mul-le-mul-left, zero-mul, zero-add}
+use Prim.Native.Nat.{ℕ, _+_, _*_, _^_, _≤_, _<_, zero-le, max}
+use native.Mathlib.Nat.{le-refl, le-trans, le-of-eq, mul-le-mul-right, zero-add}
 use native.Mathlib.Omega.{arith}
 use lib.Dec.{T, lit≤}
-use lib.Ieee.{Float, binary32, lt, eq, add, sub, mul, div, neg}
+use lib.Ieee.{Float, binary32, eq, add, sub, neg}
 use Rattle.flexing.specs.declared.Item.{Item}
 use Rattle.flexing.specs.declared.Share.{Share}
-use Rattle.flexing.specs.Flex.{raised, clamp, innerBase, factor, weight, flexed, violation, nought, _⊕_, _⊖_, _⊗_, _⊘_}
-use Rattle.reach.proofs.Units.{px, px-pos, Num, far, fl, fl-near, held-num, one-side, neg-num}
+use Rattle.flexing.specs.Flex.{raised, clamp, innerBase, factor, weight, flexed, nought, _⊕_, _⊖_, _⊗_, _⊘_}
+use Rattle.reach.proofs.Units.{px, Num, far, fl, fl-near, held-num, one-side, neg-num}
 use Rattle.reach.proofs.Plus.{Sum, sum-num, sum-near, sum-under, sum-side, sum-keeps}
-use Rattle.reach.proofs.Times.{product, product-mono, product-within, product-zero, product-le, Product, mul-num, quotient, quotient-within, Quotient, div-num, nought-num, eq-nought}
+use Rattle.reach.proofs.Times.{product, product-within, product-zero, product-le, Product, mul-num, quotient, quotient-within, div-num, nought-num, eq-nought}
 use Rattle.reach.proofs.Clamp.{Upto, Sizes, raised-num, bounded, bounded-mono, bounded-under, clamp-num, floor, ceiling, raised-small, lowered-small}
 
 -- ---- what an item's numbers are
