@@ -10,7 +10,7 @@ use Rattle.capture.proofs.answering.answer_items.Statement.{statement}
 use Rattle.capture.proofs.answering.answer_items.Tie as tie
 
 returns : tie.Need-returns
-returns c = rw (lt-ltb _ _ (c .if1 .taken)) (refl, refl)
+returns c = rw (lt-ltb 64 (c .before .before .before .args .items) (omega arith)) (refl, refl)
 
 slice-aggregate-break-items : tie.Need-slice-aggregate-break-items
 slice-aggregate-break-items c = sym (length-take-le _ _ (omega arith))
@@ -24,7 +24,7 @@ same-length : tie.Need-same-length
 same-length c = search needs
 
 returns-2 : tie.Need-returns-2
-returns-2 c = rw (le-ltb _ _ (c .before .before .before .before .before .if1 .left)) (c .before .before .break-items .ensures)
+returns-2 c = rw (le-ltb 64 (c .before .before .before .before .before .before .before .before .args .items) (omega arith)) (c .before .before .break-items .ensures)
 
 pub answer-items-spec : {M : Type 1} → statement M
 answer-items-spec =

@@ -1,4 +1,5 @@
 -- `capture::feeding::keep` meets its contract. Assumes nothing.
+use native.Mathlib.Omega.{arith}
 use borrow.Author.Tests.{lt-ltb, le-ltb}
 use borrow.Author.Needs.{needs}
 use Rattle.capture.proofs.feeding.keep.Statement.{statement}
@@ -26,10 +27,10 @@ enum-told-4 : tie.Need-enum-told-4
 enum-told-4 c = search needs
 
 returns : tie.Need-returns
-returns c = rw (c .before .before .found .given .1, lt-ltb _ _ (c .if1 .taken))
+returns c = rw (c .before .before .found .given .1, lt-ltb (c .before .before .before .before .args .item) 64 (omega arith))
 
 returns-2 : tie.Need-returns-2
-returns-2 c = rw (c .before .before .found .given .1, le-ltb _ _ (c .if1 .left))
+returns-2 c = rw (c .before .before .found .given .1, le-ltb (c .before .before .before .before .args .item) 64 (omega arith))
 
 returns-3 : tie.Need-returns-3
 returns-3 c = search needs
