@@ -8,3 +8,4 @@ pub mod Whole
 pub mod Format
 pub mod Puts
 pub mod Answers
+pub mod Unique
