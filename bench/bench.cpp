@@ -159,18 +159,6 @@ void greedy(const std::vector<List> &lists, int repetitions) {
     for (judge_list *list : items) judge_drop(list);
 }
 
-// What one remainder of floats costs, since the grid test may take one for every number.
-void remainders(const std::vector<List> &lists, int repetitions) {
-    volatile float unit = 0.015625f;
-    volatile uint32_t off = 0;
-    const auto t = measure(lists.size(), repetitions, {[&](std::size_t i) {
-                               uint32_t found = 0;
-                               for (float size : lists[i].sizes) found += std::fmod(size, unit) != 0.0f;
-                               off = found;
-                           }});
-    std::printf("fmodf by 1/64 of one list's sizes: %.0f ns, %.1f ns each\n", t[0], t[0] / double(lists[0].sizes.size()));
-}
-
 std::vector<List> many(std::size_t count, const std::function<List()> &make) {
     std::vector<List> lists;
     while (lists.size() < count) lists.push_back(make());
@@ -195,5 +183,4 @@ int main(int argc, char **argv) {
         balanced("growth: max-content, minimum 12", many(lists, [&] { return unlimited(n); }), repetitions);
     }
     greedy(middle, repetitions);
-    remainders(middle, repetitions);
 }

@@ -4,3 +4,4 @@ pub mod Line
 pub mod Counts
 pub mod Accepted
 pub mod Unique
+pub mod Examples
