@@ -9,6 +9,7 @@ import random
 import struct
 import subprocess
 import sys
+import time
 
 BODY = {1: 11, 2: 4, 3: 0}
 GRID, LENGTH, SUM = 64, 262144 * 64, 16777216
@@ -154,6 +155,51 @@ def damage(rng, data):
     return bytes(data)
 
 
+def made(kind, limit, gap, minimum, sizes, end=b"\3"):
+    return struct.pack("<BBIIH", 1, kind, limit, gap, minimum) + b"".join(struct.pack("<BI", 2, size) for size in sizes) + end
+
+
+def fixed():
+    """What random captures seldom are: numbers that are not read, sums at their bound, input longer than one read, the paper's table."""
+    nan, ten = 0x7FC00000, f32(10)
+    yield b""
+    for kind in (1, 2):
+        for limit in (nan, 0x7F800000):
+            yield made(kind, limit, 0, 1, [ten, ten])
+    yield made(0, nan, 0, 1, [ten])
+    yield made(2, 0, nan, 1, [ten])
+    for size in (f32(262144), f32(262143.984375)):
+        yield made(2, 0, 0, 1, [size])
+        yield made(2, 0, f32(1 / 64), 1, [size])
+    for minimum in (255, 256, 257, 65534, 65535):
+        yield made(0, f32(100), 0, minimum, [ten] * 5)
+    head = made(0, f32(100), 0, 1, [], b"")
+    yield head + head + b"\3"
+    for cut in range(1, len(head)):
+        yield head[:cut]
+    for items in (64, 65, 13104, 13105, 13106, 13200, 40000):
+        yield made(0, f32(100), 0, 1, [ten] * items)
+        yield made(0, f32(100), 0, 1, [ten] * items, b"")
+        yield made(0, f32(100), 0, 1, [ten] * items, b"\3\3")
+    yield made(0, f32(100), ten, 1, [f32(70), 0, f32(20)])
+    yield made(0, f32(90), ten, 1, [f32(x) for x in (30, 5, 40, 20, 0, 0, 35)])
+
+
+def answer_of(program, data, cuts):
+    """What the program prints; `cuts` are the places at which the input pauses, so that it comes in several reads."""
+    if not cuts:
+        return subprocess.run(program, input=data, stdout=subprocess.PIPE, check=True).stdout.decode()
+    child = subprocess.Popen(program, stdin=subprocess.PIPE, stdout=subprocess.PIPE)
+    for a, b in zip([0] + cuts, cuts + [len(data)]):
+        child.stdin.write(data[a:b])
+        child.stdin.flush()
+        time.sleep(0.002)
+    out = child.communicate()[0]
+    if child.returncode:
+        sys.exit("the program failed")
+    return out.decode()
+
+
 def main():
     p = argparse.ArgumentParser()
     p.add_argument("program", nargs="+")
@@ -162,15 +208,19 @@ def main():
     a = p.parse_args()
     rng = random.Random(a.seed)
     seen = {}
-    for run in range(a.runs):
-        data = damage(rng, capture(rng)) if run else b""
-        got = subprocess.run(a.program, input=data, stdout=subprocess.PIPE, check=True).stdout.decode()
+    first = list(fixed())
+    for run in range(len(first) + a.runs):
+        data = first[run] if run < len(first) else damage(rng, capture(rng))
+        cuts = sorted(rng.randrange(len(data) + 1) for _ in range(rng.randrange(1, 4))) if run % 20 == 0 else []
+        got = answer_of(a.program, data, cuts)
         want = expected(data)
         if got != want:
             sys.exit("seed %d, run %d, capture %s: the program says %r, the reader %r" % (a.seed, run, data.hex(), got, want))
         answer = want.split()[1]
         seen[answer] = seen.get(answer, 0) + 1
-    print("captures: seed %d, %d runs, 0 differences; by answer: %s" % (a.seed, a.runs, ", ".join("%s %d" % s for s in sorted(seen.items()))))
+    if sorted(seen) != ["0", "1", "3", "4", "5", "6", "7"]:
+        sys.exit("seed %d: some answer was never met: %s" % (a.seed, sorted(seen)))
+    print("captures: seed %d, %d runs, 0 differences; by answer: %s" % (a.seed, len(first) + a.runs, ", ".join("%s %d" % s for s in sorted(seen.items()))))
 
 
 main()

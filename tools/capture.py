@@ -2,11 +2,11 @@
 """Writes a capture (docs: "Records for the program") from a line of text, to standard output.
 
     tools/capture.py limit 100 gap 10 min 1 / 70 / 0 / 20 > p1.capture
-    tools/capture.py limit max gap 0 min 9 / 5 | target/.../wall
+    tools/capture.py limit max gap 0 min 9 / 5 | build/captures-program
 
 The first part names the limit (a number, min or max), the gap and the minimum line count; each further part is an item's size.
 A float may also be given by its bits, as 0x7fc00000. `raw HEX` as a part puts these bytes in its place, to try broken records,
-and a last part `open` leaves the end record out.
+and a last part `open` leaves the end record out. On an error nothing is written: in a pipe, `set -o pipefail` shows it.
 """
 import struct
 import sys
