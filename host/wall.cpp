@@ -31,7 +31,12 @@ void show(const char *how, const fratolivem::answer &answer, const std::vector<f
 int main() {
     std::vector<float> gauges{120, 80, 80, 200, 60, 60, 140, 90, 90, 70, 50, 160, 30};
     std::vector<std::uint32_t> counts(gauges.size());
-    const auto limit = fratolivem::break_limit(true, true, true, fratolivem::space::definite(480)).value();
+    const auto found = fratolivem::break_limit(true, true, true, fratolivem::space::definite(480));
+    if (!found) {
+        std::printf("no limit: %s\n", found.text().c_str());
+        return 1;
+    }
+    const auto limit = found.value();
     fratolivem::balancer balance;
     std::printf("%zu gauges, %g px wide, gap 10 px\n\n", gauges.size(), double(limit.pixels));
     show("greedy", fratolivem::greedy(limit, 10, gauges, counts), gauges, counts);

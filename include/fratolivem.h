@@ -4,7 +4,9 @@
  *  - a list is a pointer and a number of cells; a list of 0 cells may be NULL;
  *  - the lists of one call do not overlap;
  *  - the numbers of cells are true;
- *  - floats are in the default mode: rounded to nearest, subnormals not flushed to zero (no FTZ or DAZ on the calling thread).
+ *  - floats are in the default mode: rounded to nearest, subnormals not flushed to zero (no FTZ or DAZ on the calling thread; linking with
+ *    gcc's -ffast-math sets them).
+ * Calls keep no state and allocate nothing: several threads may call at once, each on lists of its own.
  *
  * Lengths are pixels, whole multiples of 1/64, of at most 262,144 px either way; -0.0 reads as 0, and no answer is -0.0.
  * Sizes and limits may be negative, gaps and bounds may not. The sum over the items of (|size| + gap) is at most 262,144 px.
@@ -44,7 +46,8 @@ enum {
 enum {
     FRATOLIVEM_DEFINITE = 0,
     FRATOLIVEM_MIN_CONTENT = 1, /* one item to each line */
-    FRATOLIVEM_MAX_CONTENT = 2  /* every line fits */
+    FRATOLIVEM_MAX_CONTENT = 2, /* every line fits */
+    FRATOLIVEM_NO_LIMIT = 3     /* of a refused break limit; handed on as a limit it is refused, 5 at the container */
 };
 
 #define FRATOLIVEM_MOST_ITEMS 1024
@@ -61,12 +64,13 @@ typedef struct {
     uint32_t number;
     uint32_t where;
     uint32_t place;
-    uint32_t kind; /* of the limit; 0 on refusal */
+    uint32_t kind; /* of the limit; NO_LIMIT on refusal */
     float limit;   /* 0.0 unless the kind is DEFINITE */
 } fratolivem_limit;
 
-/* The limit that lines break against. Flags are 0 or 1. A bound whose flag is 0 is absent, and its number is not read. The bounds are those
- * of the container's inner main size. If the known main size is not definite: max-content. Else, with a maximum: the available number, or
+/* The limit that lines break against. Flags are 0 or 1: whether the main size that the host works with is definite (not found from the items),
+ * whether the container's own style fixes its main size, and whether it is a row. A row of fixed width w: 1, 1, 1, DEFINITE, w, no bounds.
+ * A bound whose flag is 0 is absent, and its number is not read. The bounds are those of the container's inner main size. If the known main size is not definite: max-content. Else, with a maximum: the available number, or
  * the maximum where there is none; lowered to the maximum if the main size is not definite; raised to the minimum. With no maximum the
  * available space itself, but max-content for a number in a column whose main size is not definite. */
 fratolivem_limit fratolivem_break_limit(uint32_t known_is_definite, uint32_t main_is_definite, uint32_t is_row,

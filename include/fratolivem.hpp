@@ -58,13 +58,16 @@ inline std::string place_words(std::uint32_t where, std::uint32_t place) {
     return where == FRATOLIVEM_AT ? "item " + std::to_string(place) : "nowhere";
 }
 
+// A refusal and its place in words; "accepted" where there is none.
+inline std::string refusal_text(refusal why, std::uint32_t where, std::uint32_t place) {
+    return why == refusal::none ? std::string(words(why)) : std::string(words(why)) + ", at " + place_words(where, place);
+}
+
 // The answer of a breaking call. It is true where the input was accepted; else no lent cell was changed.
-struct answer : fratolivem_answer {
+struct [[nodiscard]] answer : fratolivem_answer {
     explicit operator bool() const { return number == FRATOLIVEM_ACCEPTED; }
     refusal why() const { return static_cast<refusal>(number); }
-    std::string text() const {
-        return *this ? words(why()) : std::string(words(why())) + ", at " + place_words(where, place);
-    }
+    std::string text() const { return refusal_text(why(), where, place); }
 };
 
 // Available space, or a limit. The number of a bare kind is never read.
@@ -83,13 +86,15 @@ struct bound {
     float pixels = 0.0f;
 
     constexpr bound() = default;
-    constexpr bound(float pixels) : given(1), pixels(pixels) {}
+    constexpr bound(float px) : given(1), pixels(px) {}
 };
 
-struct limit : fratolivem_limit {
+// The answer of break_limit. The value of a refused one is no limit: the breakers refuse it in turn.
+struct [[nodiscard]] limit : fratolivem_limit {
     explicit operator bool() const { return number == FRATOLIVEM_ACCEPTED; }
     refusal why() const { return static_cast<refusal>(number); }
     space value() const { return {kind, fratolivem_limit::limit}; }
+    std::string text() const { return refusal_text(why(), where, place); }
 };
 
 inline limit break_limit(bool known_is_definite, bool main_is_definite, bool is_row, space available, bound minimum = {},
@@ -102,7 +107,8 @@ inline answer greedy(space limit, float gap, span<const float> sizes, span<std::
     return {fratolivem_greedy(limit.kind, limit.pixels, gap, sizes.data(), sizes.size(), counts.data(), counts.size())};
 }
 
-// Balanced breaking that owns its work cells and keeps them between calls: a frame that breaks many lists allocates once.
+// Balanced breaking that owns its work cells and keeps them between calls: a frame that breaks many lists allocates once (4 MB for 1,024
+// items; std::bad_alloc where there is none). One for each thread.
 class balancer {
 public:
     answer operator()(space limit, float gap, std::uint32_t minimum, span<const float> sizes, span<std::uint32_t> counts) {

@@ -170,6 +170,13 @@ void cpp_header() {
     expect(!r && r.why() == fratolivem::refusal::not_finite && r.text() == "a number is NaN or infinite, at item 1", "words", {});
     const auto limit = fratolivem::break_limit(true, false, true, fratolivem::space::definite(200), {}, 120.0f);
     expect(limit && limit.value().kind == FRATOLIVEM_DEFINITE && limit.value().pixels == 120, "the C++ break limit", {});
+    // A refused limit that is handed on unread is refused again.
+    const auto refused = fratolivem::break_limit(true, true, true, fratolivem::space::definite(NAN));
+    std::vector<float> one{5};
+    std::vector<std::uint32_t> room{7};
+    const auto again = fratolivem::greedy(refused.value(), 0, one, room);
+    expect(!refused && refused.why() == fratolivem::refusal::not_finite && again.why() == fratolivem::refusal::out_of_range && room[0] == 7,
+           "a refused limit handed on", {});
     calls += 5;
 }
 

@@ -183,7 +183,7 @@ inline fratolivem_limit break_limit(const Query &q) {
     const bool known = q.known_is_definite <= 1 && q.main_is_definite <= 1 && q.is_row <= 1 && q.available_kind <= 2 &&
                        q.has_minimum <= 1 && q.has_maximum <= 1;
     const Refusal r = check_numbers(numbers, known, {});
-    if (r.number) return {r.number, r.where, r.place, 0, 0.0f};
+    if (r.number) return {r.number, r.where, r.place, FRATOLIVEM_NO_LIMIT, 0.0f};
     const auto is = [](uint32_t kind, int64_t limit) {
         return fratolivem_limit{0, 0, 0, kind, kind == FRATOLIVEM_DEFINITE ? float(double(limit) / 64.0) : 0.0f};
     };

@@ -111,9 +111,9 @@ cSpace (Definite x) = record { number = 0; at = 0; place = 0; kind = 0; limit = 
 cSpace MinContent = record { number = 0; at = 0; place = 0; kind = 1; limit = ofBits binary32 0 }
 cSpace MaxContent = record { number = 0; at = 0; place = 0; kind = 2; limit = ofBits binary32 0 }
 
--- a refusal has no limit to tell of: kind and limit are 0
+-- a refusal has no limit to tell of: its kind, 3, names none, so that a breaking call that is handed it refuses too
 abbrev pub cRefused : CAnswer → CLimit
-cRefused r = record { number = r .number; at = r .at; place = r .place; kind = 0; limit = ofBits binary32 0 }
+cRefused r = record { number = r .number; at = r .at; place = r .place; kind = 3; limit = ofBits binary32 0 }
 
 abbrev pub cLimit : BreakLimit → CLimit
 cLimit (Limit space) = cSpace space

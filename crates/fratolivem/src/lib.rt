@@ -26,7 +26,7 @@ pub struct CAnswer {
     pub rounds: u32,
 }
 
-// A break limit: number and place as above, then its kind (0 definite, 1 min-content, 2 max-content), and the limit where it is definite.
+// A break limit: number and place as above, then its kind (0 definite, 1 min-content, 2 max-content, 3 none: refused), and the limit where it is definite.
 #[repr(C)]
 pub struct CLimit {
     pub number: u32,
@@ -135,6 +135,7 @@ fn space_to_c(space: AvailableSpace) -> CLimit
     }
 }
 
+// A refused limit that a host hands on unread must be refused again: its kind names none.
 fn no_limit(r: CAnswer) -> CLimit
     ensures { λ l. ⌜ l ≡ cRefused r ⌝ }
 {
@@ -142,7 +143,7 @@ fn no_limit(r: CAnswer) -> CLimit
         number: r.number,
         at: r.at,
         place: r.place,
-        kind: 0,
+        kind: 3,
         limit: 0.0,
     }
 }
