@@ -9,5 +9,6 @@ pub mod Determined
 pub mod Columns
 pub mod Marked
 pub mod Accept
+pub mod Going
 pub mod Examples
 pub mod Sign

@@ -12,6 +12,7 @@ use refusal::Verdict;
 
 mod checks;
 mod flex;
+pub mod lines;
 mod rounds;
 mod sizes;
 mod sum;
