@@ -18,8 +18,8 @@ use Rattle.flexing.specs.declared.Item.{Item}
 use Rattle.flexing.specs.Flex.{outerSum, lineOf, begun, Runs, Flexed, targets as targetsOf}
 use Rattle.flexing.specs.Call.{each}
 use Rattle.flexing.specs.Cells.{itemIn, itemsIn, Measured, Every, Accepted}
-use Rattle.flexing.specs.Lines.{lineStart, lineItems, lineCells}
-use Rattle.flexing.specs.Parts.{Lined, Ahead, Flowed, Cleared}
+use Rattle.flexing.specs.Lines.{lineStart, lineItems, lineCells, Beyond, FlexedLines}
+use Rattle.flexing.specs.Parts.{Divided, Lined, Ahead, Flowed, Cleared}
 use Rattle.flexing.proofs.Each.{length-each, each-ext, outer-snoc}
 use Rattle.flexing.proofs.Accept.{every-each}
 
@@ -46,6 +46,9 @@ unfolding sumUpTo
 lines-few f zero h = zero-le
 lines-few f (suc n) h = omega (arith, lines-few f n (λ j l. h j (omega arith)), h n (omega arith))
 
+pub counts-few : (inner gap : Float) (t : List Float) (n : ℕ) (counts : List ℕ) (targets : List Float) (free : List ℤ) (rounds : List ℕ) → Divided inner gap t n counts targets free rounds → length counts ≤ n
+counts-few inner gap t n counts targets free rounds pre = subst (λ (k : ℕ). length counts ≤ k) (pre .whole) (lines-few (λ i. getD counts i 0) (length counts) (pre .positive))
+
 -- ---- a line's items are accepted
 
 outer-parts : (gap : Float) (g : ℕ → Item) (a c : ℕ) → outerSum gap (each (a + c) g) ≡ outerSum gap (each a g) + outerSum gap (each c (λ i. g (a + i)))
@@ -67,17 +70,17 @@ outer-line gap g a c n h =
 module _ (inner gap : Float) (t : List Float) (n : ℕ) (counts : List ℕ) (targets : List Float) (free : List ℤ) (rounds : List ℕ) (pre : Lined inner gap t n counts targets free rounds) where
   pub accepted-line : (a c : ℕ) → a + c ≤ n → Accepted inner gap (itemsIn t a c)
   accepted-line a c h = record {
-    inner-is = pre .inner-is;
-    gap-is = pre .gap-is;
-    items-are = every-each c (λ i. itemIn t (a + i)) (λ i l. pre .tabled (a + i) (omega arith));
+    inner-is = pre .divided .inner-is;
+    gap-is = pre .divided .gap-is;
+    items-are = every-each c (λ i. itemIn t (a + i)) (λ i l. pre .divided .tabled (a + i) (omega arith));
     within = le-trans (subst (λ (l : List Item). outerSum gap l ≤ outerSum gap (itemsIn t 0 n)) (each-ext c (λ i. itemIn t (0 + (a + i))) (λ i. itemIn t (a + i)) (λ i l. ap (itemIn t) (zero-add (a + i)))) (outer-line gap (λ i. itemIn t (0 + i)) a c n h)) (pre .within);
   }
 
   pub line-ends : (j : ℕ) → j < length counts → lineStart counts j + getD counts j 0 ≤ n
-  line-ends j h = subst (λ (k : ℕ). lineStart counts j + getD counts j 0 ≤ k) (pre .whole) (ends-before (λ i. getD counts i 0) j (length counts) h)
+  line-ends j h = subst (λ (k : ℕ). lineStart counts j + getD counts j 0 ≤ k) (pre .divided .whole) (ends-before (λ i. getD counts i 0) j (length counts) h)
 
   pub lines-within : length counts ≤ n
-  lines-within = subst (λ (k : ℕ). length counts ≤ k) (pre .whole) (lines-few (λ i. getD counts i 0) (length counts) (pre .positive))
+  lines-within = counts-few inner gap t n counts targets free rounds (pre .divided)
 
 -- ---- a line's cells
 
@@ -201,11 +204,11 @@ module _ (inner gap : Float) (t : List Float) (n : ℕ) (counts : List ℕ) (tar
     turn-of =
         let l = lines-within inner gap t n counts targets₀ free₀ rounds₀ pre in
         record {
-          inside = omega (arith, line-inside, pre .few);
-          room = omega (arith, line-inside, pre .room, g .flowed .long);
-          free-room = omega (arith, l, pre .free-room, g .flowed .free-past .long);
-          rounds-room = omega (arith, l, pre .rounds-room, g .flowed .rounds-past .long);
-          line-few = omega (arith, l, pre .few);
+          inside = omega (arith, line-inside, pre .divided .few);
+          room = omega (arith, line-inside, pre .divided .room, g .flowed .long);
+          free-room = omega (arith, l, pre .divided .free-room, g .flowed .free-past .long);
+          rounds-room = omega (arith, l, pre .divided .rounds-room, g .flowed .rounds-past .long);
+          line-few = omega (arith, l, pre .divided .few);
           less = g .less;
         }
 
@@ -237,3 +240,20 @@ module _ {A : Type 0} (none : A) (k n : ℕ) (old : List A) where
 
   pub clear-all : (new : List A) (i : ℕ) → n ≤ i → Clearing none k n old new i → Cleared none k n old new
   clear-all new i h p = subst (λ (m : ℕ). Cleared none k m old new) (le-antisymm (p .inside) h) (p .cleared)
+
+-- ---- all cells
+
+beyond : {A : Type 0} (none : A) (k n : ℕ) (old mid new : List A) → k ≤ n → Ahead none k old mid → Cleared none k n mid new → Beyond none k n old new
+beyond none k n old mid new h p q = record { long = q .long ∙ p .long; zeros = q .zeros; kept = λ j l. q .kept j l ∙ p .rest j (le-trans h l) }
+
+pub lines-flexed : (inner gap : Float) (item : ℕ → Item) (n : ℕ) (counts : List ℕ) (sum : ℕ) (targets₀ : List Float) (free₀ : List ℤ) (rounds₀ : List ℕ) (targets : List Float) (free : List ℤ) (rounds : List ℕ) (free' : List ℤ) (rounds' : List ℕ)
+    → lineStart counts (length counts) ≡ n → length counts ≤ n → Flowed inner gap item counts (length counts) sum targets₀ free₀ rounds₀ targets free rounds → Cleared (pos 0) (length counts) n free free' → Cleared 0 (length counts) n rounds rounds'
+    → FlexedLines inner gap item n counts sum targets₀ free₀ rounds₀ targets free' rounds'
+lines-flexed inner gap item n counts sum targets₀ free₀ rounds₀ targets free rounds free' rounds' w k p f r = record {
+  line = λ j l. flexed-as inner gap _ _ _ _ _ _ [] [] _ _ refl (sym (f .before j l)) (sym (r .before j l)) refl refl (p .line j l);
+  sum-is = p .sum-is ∙ sum-ext (λ j. getD rounds j 0) (λ j. getD rounds' j 0) (length counts) (λ j l. sym (r .before j l));
+  long = p .long;
+  past = subst (λ (i : ℕ). drop i targets ≡ drop i targets₀) w (p .past);
+  free-past = beyond (pos 0) (length counts) n free₀ free free' k (p .free-past) f;
+  rounds-past = beyond 0 (length counts) n rounds₀ rounds rounds' k (p .rounds-past) r;
+}

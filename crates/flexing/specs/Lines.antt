@@ -7,6 +7,11 @@ use lib.ListN.{length, getD, take, drop}
 use lib.IntN.{ℤ, pos}
 use lib.Ieee.{Float}
 use Rattle.refusal.specs.Marks.{sumUpTo}
+use Rattle.refusal.specs.declared.Verdict.{Verdict}
+use Rattle.refusal.specs.declared.Verdict.the-variants.{Passed}
+use Rattle.refusal.specs.declared.Verdict.the-variants as verdict
+use Rattle.refusal.specs.declared.Answer.{Answer}
+use Rattle.refusal.specs.declared.Answer.the-variants.{Done, Refused}
 use Rattle.flexing.specs.declared.Item.{Item}
 use Rattle.flexing.specs.Flex.{Flexed}
 use Rattle.flexing.specs.Call.{each}
@@ -40,3 +45,8 @@ pub record FlexedLines (inner gap : Float) (item : ℕ → Item) (n : ℕ) (coun
   pub past : drop n targets ≡ drop n targets₀
   pub free-past : Beyond (pos 0) (length counts) n free₀ free
   pub rounds-past : Beyond 0 (length counts) n rounds₀ rounds
+
+-- a refusal changes no cell; where the checks passed, the lines are flexed
+abbrev pub AnsweredLines : Verdict → Float → Float → (ℕ → Item) → ℕ → List ℕ → Answer → List Float → List ℤ → List ℕ → List Float → List ℤ → List ℕ → Type 0
+AnsweredLines v inner gap item n counts (Refused why) targets₀ free₀ rounds₀ targets free rounds = (v ≡ verdict.Refused why) × (targets ≡ targets₀) × (free ≡ free₀) × (rounds ≡ rounds₀)
+AnsweredLines v inner gap item n counts (Done lines sum) targets₀ free₀ rounds₀ targets free rounds = (v ≡ Passed) × (lines ≡ length counts) × FlexedLines inner gap item n counts sum targets₀ free₀ rounds₀ targets free rounds

@@ -13,18 +13,22 @@ use Rattle.flexing.specs.Flex.{Flexed, outerSum}
 use Rattle.flexing.specs.Cells.{itemsIn, Tabled}
 use Rattle.flexing.specs.Lines.{lineStart, lineItems, lineCells}
 
--- the lines have the n items of the table, none of them is empty, and there is room
-pub record Lined (inner gap : Float) (t : List Float) (n : ℕ) (counts : List ℕ) (targets : List Float) (free : List ℤ) (rounds : List ℕ) : Type 0 where
+-- what checks 1 to 5 show: the lines have the n items of the table, none of them is empty, and there is room
+pub record Divided (inner gap : Float) (t : List Float) (n : ℕ) (counts : List ℕ) (targets : List Float) (free : List ℤ) (rounds : List ℕ) : Type 0 where
   pub few : n ≤ 1024
   pub inner-is : Length inner
   pub gap-is : Length gap
   pub tabled : Tabled t n
-  pub within : outerSum gap (itemsIn t 0 n) ≤ 16777216
   pub whole : lineStart counts (length counts) ≡ n
   pub positive : (j : ℕ) → j < length counts → 0 < getD counts j 0
   pub room : n ≤ length targets
   pub free-room : n ≤ length free
   pub rounds-room : n ≤ length rounds
+
+-- and check 6
+pub record Lined (inner gap : Float) (t : List Float) (n : ℕ) (counts : List ℕ) (targets : List Float) (free : List ℤ) (rounds : List ℕ) : Type 0 where
+  pub divided : Divided inner gap t n counts targets free rounds
+  pub within : outerSum gap (itemsIn t 0 n) ≤ 16777216
 
 -- a list of which the cells from k on are as they were
 pub record Ahead {A : Type 0} (none : A) (k : ℕ) (old new : List A) : Type 0 where

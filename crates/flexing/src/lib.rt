@@ -10,9 +10,9 @@ ghost use Rattle.flexing.specs.Call.{lists, itemsOf, inputOf, shapeOf, l
 ghost use Rattle.flexing.specs.Cells.{itemsIn, Tabled, Checked};
 use refusal::Verdict;
 
+mod by_line;
 mod checks;
 mod flex;
-pub mod lines;
 mod rounds;
 mod sizes;
 mod sum;

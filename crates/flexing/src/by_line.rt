@@ -1,10 +1,15 @@
 // Many lines: each is flexed by its own items of the table, and its free space and rounds are listed by line.
 ghost use mathlib.Core.Path.{_≡_};
 ghost use Prim.Native.Nat.{_≤_, _<_};
+ghost use Rattle.refusal.specs.Domain.{summed};
+ghost use Rattle.flexing.specs.Flex.{outerSum};
 ghost use lib.ListN.{length, set};
 ghost use lib.IntN.{pos};
-ghost use Rattle.flexing.specs.Cells.{itemIn};
-ghost use Rattle.flexing.specs.Parts.{Lined, Flowed, Cleared};
+ghost use Rattle.flexing.specs.Cells.{itemIn, itemsIn};
+ghost use Rattle.flexing.specs.Lines.{FlexedLines, AnsweredLines};
+ghost use Rattle.flexing.specs.Parts.{Divided, Lined, Flowed, Cleared};
+use refusal::Answer;
+use refusal::Verdict;
 use crate::flex::flex_items;
 
 fn store_free(free: &mut [i32], j: usize, x: i32)
@@ -65,5 +70,51 @@ fn clear_rounds(rounds: &mut [u32], from: usize, n: usize)
     while j < n {
         rounds[j] = 0;
         j += 1;
+    }
+}
+
+fn flex_all<'a>(
+    table: &'a [f32; 8192],
+    n: usize,
+    inner: f32,
+    gap: f32,
+    counts: &'a [u32],
+    targets: &mut [f32],
+    free: &mut [i32],
+    rounds: &mut [u32],
+) -> u32
+    requires { ⌜ Lined inner gap (now table) n (now counts) (now targets) (now free) (now rounds) ⌝ }
+    ensures { λ r. ⌜ FlexedLines inner gap (itemIn (now (table .entry))) n (now (counts .entry)) r (now (targets .entry)) (now (free .entry)) (now (rounds .entry)) (now (targets .exit)) (now (free .exit)) (now (rounds .exit)) ⌝ }
+{
+    let sum = flex_each(table, n, inner, gap, counts, targets, free, rounds);
+    clear_free(free, counts.len(), n);
+    clear_rounds(rounds, counts.len(), n);
+    sum
+}
+
+// Check 6 of items that are read, and, where it passes, their lines flexed.
+pub fn flex_lines_read<'a>(
+    table: &'a [f32; 8192],
+    n: usize,
+    inner: f32,
+    gap: f32,
+    counts: &'a [u32],
+    targets: &mut [f32],
+    free: &mut [i32],
+    rounds: &mut [u32],
+) -> Answer
+    requires { ⌜ Divided inner gap (now table) n (now counts) (now targets) (now free) (now rounds) ⌝ }
+    ensures { λ r. ⌜ AnsweredLines (summed (outerSum gap (itemsIn (now (table .entry)) 0 n))) inner gap (itemIn (now (table .entry))) n (now (counts .entry)) r (now (targets .entry)) (now (free .entry)) (now (rounds .entry)) (now (targets .exit)) (now (free .exit)) (now (rounds .exit)) ⌝ }
+{
+    let v = refusal::check_sum(crate::sum::outer_sum(table, n, gap));
+    match v {
+        Verdict::Refused(why) => Answer::Refused(why),
+        Verdict::Passed => {
+            let sum = flex_all(table, n, inner, gap, counts, targets, free, rounds);
+            Answer::Done {
+                lines: counts.len() as u32,
+                rounds: sum,
+            }
+        }
     }
 }

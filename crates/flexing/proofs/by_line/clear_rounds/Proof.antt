@@ -6,10 +6,10 @@ use lib.ListN.{length, getD}
 use lib.IntN.{pos}
 use denote.Ref.{now}
 use Rattle.flexing.proofs.Going.{Clearing, clear-none, clear-next, clear-all}
-use Rattle.flexing.proofs.lines.clear_rounds.Statement.{statement}
-use Rattle.flexing.proofs.lines.clear_rounds.Tie as tie
-use Rattle.flexing.proofs.lines.clear_rounds.Reads as reads
-use Rattle.flexing.proofs.lines.clear_rounds.Lts as lts
+use Rattle.flexing.proofs.by_line.clear_rounds.Statement.{statement}
+use Rattle.flexing.proofs.by_line.clear_rounds.Tie as tie
+use Rattle.flexing.proofs.by_line.clear_rounds.Reads as reads
+use Rattle.flexing.proofs.by_line.clear_rounds.Lts as lts
 
 abbrev Inv-loop : tie.InvT-loop
 Inv-loop rounds₀ from n j₀ rounds j = Clearing 0 from n rounds₀ rounds j

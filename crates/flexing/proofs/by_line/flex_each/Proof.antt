@@ -11,12 +11,12 @@ use Rattle.flexing.specs.Cells.{itemIn, itemsIn, Accepted}
 use Rattle.flexing.proofs.Each.{length-each}
 use Rattle.flexing.proofs.Units.{free-bits}
 use Rattle.flexing.proofs.Going.{Going, going-none, going-next, going-all, accepted-line, line-inside, Turn, turn-of}
-use Rattle.flexing.proofs.lines.flex_each.Statement.{statement}
-use Rattle.flexing.proofs.lines.flex_each.Tie as tie
-use Rattle.flexing.proofs.lines.flex_each.Reads as reads
-use Rattle.flexing.proofs.lines.flex_each.Lts as lts
+use Rattle.flexing.proofs.by_line.flex_each.Statement.{statement}
+use Rattle.flexing.proofs.by_line.flex_each.Tie as tie
+use Rattle.flexing.proofs.by_line.flex_each.Reads as reads
+use Rattle.flexing.proofs.by_line.flex_each.Lts as lts
 use Rattle.flexing.proofs.flex.flex_items.Reads as flex-items-reads
-use Rattle.flexing.proofs.lines.store_free.Reads as store-free-reads
+use Rattle.flexing.proofs.by_line.store_free.Reads as store-free-reads
 
 abbrev Inv-loop : tie.InvT-loop
 Inv-loop table n inner gap counts targets₀ free₀ rounds₀ sum₀ start₀ line₀ targets free rounds sum start line = Going inner gap (itemIn table) counts targets₀ free₀ rounds₀ targets free rounds sum start line

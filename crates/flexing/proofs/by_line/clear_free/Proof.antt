@@ -7,11 +7,11 @@ use mathlib.Core.List.{List}
 use lib.IntN.{ℤ, pos}
 use denote.Ref.{now}
 use Rattle.flexing.proofs.Going.{Clearing, clear-none, clear-next, clear-all}
-use Rattle.flexing.proofs.lines.clear_free.Statement.{statement}
-use Rattle.flexing.proofs.lines.clear_free.Tie as tie
-use Rattle.flexing.proofs.lines.clear_free.Reads as reads
-use Rattle.flexing.proofs.lines.clear_free.Lts as lts
-use Rattle.flexing.proofs.lines.store_free.Reads as store-free-reads
+use Rattle.flexing.proofs.by_line.clear_free.Statement.{statement}
+use Rattle.flexing.proofs.by_line.clear_free.Tie as tie
+use Rattle.flexing.proofs.by_line.clear_free.Reads as reads
+use Rattle.flexing.proofs.by_line.clear_free.Lts as lts
+use Rattle.flexing.proofs.by_line.store_free.Reads as store-free-reads
 
 abbrev Inv-loop : tie.InvT-loop
 Inv-loop free₀ from n j₀ free j = Clearing (pos 0) from n free₀ free j
