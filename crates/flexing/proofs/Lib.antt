@@ -10,5 +10,6 @@ pub mod Columns
 pub mod Marked
 pub mod Accept
 pub mod Going
+pub mod Division
 pub mod Examples
 pub mod Sign

@@ -10,7 +10,8 @@ use Rattle.grid.specs.Grid.{Length}
 use Rattle.refusal.specs.Marks.{sumUpTo}
 use Rattle.flexing.specs.declared.Item.{Item}
 use Rattle.flexing.specs.Flex.{Flexed, outerSum}
-use Rattle.flexing.specs.Cells.{itemsIn, Tabled}
+use Rattle.flexing.specs.Call.{Lists, count}
+use Rattle.flexing.specs.Cells.{itemsIn, Tabled, Checked}
 use Rattle.flexing.specs.Lines.{lineStart, lineItems, lineCells}
 
 -- what checks 1 to 5 show: the lines have the n items of the table, none of them is empty, and there is room
@@ -50,3 +51,12 @@ pub record Cleared {A : Type 0} (none : A) (k n : ℕ) (old new : List A) : Type
   pub before : (j : ℕ) → j < k → getD new j none ≡ getD old j none
   pub zeros : (j : ℕ) → k ≤ j → j < n → getD new j none ≡ none
   pub kept : (j : ℕ) → n ≤ j → getD new j none ≡ getD old j none
+
+-- ---- what checks 1 to 5 show of a call
+
+pub record CheckedLines (inner gap : Float) (counts : List ℕ) (ls : Lists) (targets : List Float) (free : List ℤ) (rounds : List ℕ) : Type 0 where
+  pub checked : Checked inner gap ls targets
+  pub whole : lineStart counts (length counts) ≡ count ls
+  pub positive : (j : ℕ) → j < length counts → 0 < getD counts j 0
+  pub free-room : count ls ≤ length free
+  pub rounds-room : count ls ≤ length rounds

@@ -13,6 +13,7 @@ use refusal::Verdict;
 mod by_line;
 mod checks;
 mod flex;
+pub mod lines;
 mod rounds;
 mod sizes;
 mod sum;
@@ -160,7 +161,7 @@ fn check_line<'a>(
     );
     match v {
         Verdict::Refused(why) => Verdict::Refused(why),
-        Verdict::Passed => checks::check_numbers(
+        Verdict::Passed => refusal::judge(checks::mark_numbers(
             inner,
             gap,
             base,
@@ -174,7 +175,7 @@ fn check_line<'a>(
             end,
             auto_start,
             auto_end,
-        ),
+        )),
     }
 }
 
