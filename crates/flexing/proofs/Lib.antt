@@ -11,5 +11,6 @@ pub mod Marked
 pub mod Accept
 pub mod Going
 pub mod Division
+pub mod Independent
 pub mod Examples
 pub mod Sign
