@@ -10,11 +10,11 @@ use lib.Dec.{eqb, leb}
 use lib.ListN.{length, getD}
 use lib.IntN.{ℤ}
 use lib.Ieee.{Float}
-use borrow.Author.Count.{below-none, below-more}
+use borrow.Author.Count.{below-more}
 use borrow.Author.Tests.{leb-true, eqb-true}
 use Rattle.grid.specs.Grid.{Length, cleaned}
 use Rattle.refusal.specs.Domain.{Number, code, summed, then, shape}
-use Rattle.refusal.specs.Marks.{mark, leastOf, leastUpTo, leastMark, judged, Fine, Sound}
+use Rattle.refusal.specs.Marks.{mark, leastOf, leastUpTo, leastMark, judged, Fine}
 use Rattle.refusal.specs.declared.Refusal.{Refusal}
 use Rattle.refusal.specs.declared.Verdict.{Verdict}
 use Rattle.refusal.specs.declared.Verdict.the-variants.{Passed}
@@ -25,7 +25,7 @@ use Rattle.refusal.proofs.Checks.{judged-checked, accepted, then-passed, shape-
 use Rattle.refusal.proofs.Sweep.{sum-none, sum-more}
 use Rattle.flexing.specs.declared.Item.{Item}
 use Rattle.flexing.specs.Flex.{outerSum}
-use Rattle.flexing.specs.Call.{Lists, count, each, itemAt, itemsOf, inputOf, shapeOf}
+use Rattle.flexing.specs.Call.{Lists, count, itemAt, itemsOf, inputOf, shapeOf}
 use Rattle.flexing.specs.Cells.{itemIn, itemsIn, Held, Even}
 use Rattle.flexing.specs.Lines.{lineStart, linesShape, positive, divides, division, linesInput, roomOf, linesVerdict, FlexedLines, AnsweredLines}
 use Rattle.flexing.specs.Parts.{Divided, CheckedLines}

@@ -1,10 +1,9 @@
 -- The loop over lines: the lines before this one are flexed and outlive a later line's cells, by the order of their ranges. Assumes nothing.
 use mathlib.Core.Path.{_≡_, refl, sym, ap, ap₂, _∙_, subst}
 use mathlib.Core.Logic.{_⊎_, inl, inr}
-use mathlib.Core.List.{List, [], _∷_, _++_}
+use mathlib.Core.List.{List, [], _++_}
 use Prim.Native.Nat.{ℕ, zero, suc, _+_, _-_, _≤_, _<_, zero-le}
 use native.Mathlib.Nat.{le-refl, le-trans, zero-add, ne-of-lt, ne-of-gt, eq-or-lt-of-le, le-of-suc-le-suc, le-antisymm}
-use native.Mathlib.Numerals.{add-one}
 use native.Mathlib.Omega.{arith}
 use lib.ListN.{length, getD, take, drop, set, length-set, drop-of-length-le}
 use lib.Seq.{getD-set-same, getD-set-other, take-add, take-take, take-at, drop-at, drop-nil, drop-drop, length-take-le}
@@ -15,9 +14,9 @@ use borrow.Rule.Slice.PartMut.{midOf, putMid, postOf, same-len-mid, mid-len, tak
 use Rattle.refusal.specs.Marks.{sumUpTo}
 use Rattle.refusal.proofs.Sweep.{sum-none, sum-more}
 use Rattle.flexing.specs.declared.Item.{Item}
-use Rattle.flexing.specs.Flex.{outerSum, lineOf, begun, Runs, Flexed, targets as targetsOf}
+use Rattle.flexing.specs.Flex.{outerSum, Flexed, targets as targetsOf}
 use Rattle.flexing.specs.Call.{each}
-use Rattle.flexing.specs.Cells.{itemIn, itemsIn, Measured, Every, Accepted}
+use Rattle.flexing.specs.Cells.{itemIn, itemsIn, Accepted}
 use Rattle.flexing.specs.Lines.{lineStart, lineItems, lineCells, Beyond, FlexedLines}
 use Rattle.flexing.specs.Parts.{Divided, Lined, Ahead, Flowed, Cleared}
 use Rattle.flexing.proofs.Each.{length-each, each-ext, outer-snoc}
@@ -138,8 +137,8 @@ module _ (inner gap : Float) (item : ℕ → Item) (counts : List ℕ) (targets�
   module _ (targets : List Float) (free : List ℤ) (rounds : List ℕ) (sum start line : ℕ) (g : Going inner gap item counts targets₀ free₀ rounds₀ targets free rounds sum start line) where
     -- one line more
     pub going-next : (e : ℕ) (part : List Float) (f : ℤ) (r : ℕ) → line < length counts → e ≡ start + getD counts line 0 → e ≤ length targets → line < length free → line < length rounds → length part ≡ e - start
-      → Flexed inner gap (each (getD counts line 0) (λ i. item (start + i))) f r (midOf start (e - start) targets) part
-      → Going inner gap item counts targets₀ free₀ rounds₀ (putMid start (e - start) targets part) (set free line f) (set rounds line r) (sum + r) e (line + 1)
+        → Flexed inner gap (each (getD counts line 0) (λ i. item (start + i))) f r (midOf start (e - start) targets) part
+        → Going inner gap item counts targets₀ free₀ rounds₀ (putMid start (e - start) targets part) (set free line f) (set rounds line r) (sum + r) e (line + 1)
     going-next e part f r h q room lf lr lp p =
         let now' : List Float = putMid start (e - start) targets part in
         let free' : List ℤ = set free line f in
@@ -156,14 +155,14 @@ module _ (inner gap : Float) (item : ℕ → Item) (counts : List ℕ) (targets�
           flowed = record {
             line = below-more (λ (j : ℕ). Flexed inner gap (lineItems item counts j) (getD free' j (pos 0)) (getD rounds' j 0) [] (lineCells counts j now')) line
                 (λ j l. flexed-as inner gap _ _ _ _ _ _ [] [] _ _ refl (sym (getD-set-other free line j f (pos 0) (ne-of-lt l))) (sym (getD-set-other rounds line j r 0 (ne-of-lt l))) refl
-                    (sym (other-cells (lineStart counts j) (getD counts j 0) start e targets part (subst (λ (k : ℕ). lineStart counts j + getD counts j 0 ≤ k) (sym (g .here)) (ends-before (λ i. getD counts i 0) j line l)) (omega arith) room lp))
-                    (g .flowed .line j l))
+                (sym (other-cells (lineStart counts j) (getD counts j 0) start e targets part (subst (λ (k : ℕ). lineStart counts j + getD counts j 0 ≤ k) (sym (g .here)) (ends-before (λ i. getD counts i 0) j line l)) (omega arith) room lp))
+                (g .flowed .line j l))
                 (flexed-as inner gap _ _ _ _ _ _ (midOf start (e - start) targets) [] _ _
-                    (ap (λ (k : ℕ). each c (λ i. item (k + i))) (g .here))
-                    (sym (getD-set-same free line f (pos 0) lf)) (sym (getD-set-same rounds line r 0 lr))
-                    (drop-of-length-le (midOf start (e - start) targets) {i = length (each c it)} (omega (arith, mid-len start e targets room)) ∙ sym (drop-nil (length (each c it))))
-                    (sym (ap (λ (k : ℕ). take c (drop k now')) (sym (g .here)) ∙ own-cells start c e targets part q room lp))
-                    p);
+                (ap (λ (k : ℕ). each c (λ i. item (k + i))) (g .here))
+                (sym (getD-set-same free line f (pos 0) lf)) (sym (getD-set-same rounds line r 0 lr))
+                (drop-of-length-le (midOf start (e - start) targets) {i = length (each c it)} (omega (arith, mid-len start e targets room)) ∙ sym (drop-nil (length (each c it))))
+                (sym (ap (λ (k : ℕ). take c (drop k now')) (sym (g .here)) ∙ own-cells start c e targets part q room lp))
+                p);
             sum-is =
                 ap₂ (λ (a b : ℕ). a + b) (g .flowed .sum-is ∙ sum-ext (λ j. getD rounds j 0) (λ j. getD rounds' j 0) line (λ j l. sym (getD-set-other rounds line j r 0 (ne-of-lt l)))) (sym (getD-set-same rounds line r 0 lr))
                 ∙ sym (sum-more (λ j. getD rounds' j 0) line);

@@ -7,7 +7,7 @@ use mathlib.Core.List.{List, [], _∷_, _++_}
 use Prim.Native.Nat.{ℕ, zero, suc, _+_, _≤_, _<_}
 use native.Mathlib.Omega.{arith}
 use lib.Dec.{ltb}
-use lib.ListN.{length, getD, take, drop, take-append-drop}
+use lib.ListN.{length, getD, take, take-append-drop}
 use lib.Seq.{ext-getD, take-add}
 use lib.IntN.{ℤ, pos}
 use lib.Ieee.{Float}
@@ -16,8 +16,6 @@ use Rattle.grid.specs.Grid.{cleaned}
 use Rattle.refusal.specs.Domain.{checked, summed}
 use Rattle.refusal.specs.Marks.{sumUpTo}
 use Rattle.refusal.specs.declared.Refusal.{Refusal}
-use Rattle.refusal.specs.declared.Refusal.the-variants.{TooManyItems}
-use Rattle.refusal.specs.declared.Verdict.{Verdict}
 use Rattle.refusal.specs.declared.Verdict.the-variants.{Passed}
 use Rattle.refusal.specs.declared.Verdict.the-variants as verdict
 use Rattle.refusal.specs.declared.Answer.{Answer}
@@ -26,9 +24,9 @@ use Rattle.refusal.proofs.Checks.{accepted, then-passed}
 use Rattle.flexing.specs.declared.Item.{Item}
 use Rattle.flexing.specs.Flex.{outerSum}
 use Rattle.flexing.specs.Call.{Lists, count, each, itemAt, itemsOf}
-use Rattle.flexing.specs.Lines.{lineStart, lineItems, lineCells, linesShape, linesInput, roomOf, linesVerdict, Beyond, FlexedLines, AnsweredLines, FlexedByLine}
+use Rattle.flexing.specs.Lines.{lineStart, lineItems, lineCells, linesShape, linesInput, roomOf, linesVerdict, Beyond, FlexedByLine}
 use Rattle.flexing.proofs.Each.{each-ext}
-use Rattle.flexing.proofs.Determined.{same-answer}
+use Rattle.flexing.proofs.Determined.{same-answer, passes, whyOf}
 use Rattle.flexing.proofs.Going.{sum-ext, flexed-as}
 use Rattle.flexing.proofs.Division.{division-fine}
 
@@ -93,14 +91,6 @@ by-cells counts (suc k) a b h =
     take-add (lineStart counts k) (getD counts k 0) a
     ∙ ap₂ (λ (x y : List Float). x ++ y) (by-cells counts k a b (λ j l. h j (omega arith))) (h k (omega arith))
     ∙ sym (take-add (lineStart counts k) (getD counts k 0) b)
-
-passes : Verdict → Bool
-passes Passed = true
-passes (verdict.Refused why) = false
-
-whyOf : Verdict → Refusal
-whyOf Passed = TooManyItems
-whyOf (verdict.Refused why) = why
 
 -- any two results that the contract allows are equal
 pub lines-determined : (inner gap : Float) (counts : List ℕ) (ls : Lists) (targets₀ : List Float) (free₀ : List ℤ) (rounds₀ : List ℕ) (r s : Answer) (a b : List Float) (f g : List ℤ) (m n : List ℕ)

@@ -8,9 +8,9 @@ ghost use lib.IntN.{pos};
 ghost use Rattle.flexing.specs.Cells.{itemIn, itemsIn};
 ghost use Rattle.flexing.specs.Lines.{FlexedLines, AnsweredLines};
 ghost use Rattle.flexing.specs.Parts.{Divided, Lined, Flowed, Cleared};
+use crate::flex::flex_items;
 use refusal::Answer;
 use refusal::Verdict;
-use crate::flex::flex_items;
 
 fn store_free(free: &mut [i32], j: usize, x: i32)
     requires { ⌜ j < length (now free) ⌝ }

@@ -6,7 +6,7 @@ ghost use Rattle.grid.specs.Grid.{Length, cleaned};
 ghost use Rattle.refusal.specs.Domain.{summed, then};
 ghost use Rattle.refusal.specs.Marks.{leastMark, judged};
 ghost use Rattle.flexing.specs.Flex.{outerSum};
-ghost use Rattle.flexing.specs.Call.{lists, itemsOf, inputOf, shapeOf, lineVerdict, Answered, FlexedLine};
+ghost use Rattle.flexing.specs.Call.{lists, itemsOf, inputOf, shapeOf, Answered, FlexedLine};
 ghost use Rattle.flexing.specs.Cells.{itemsIn, Tabled, Checked};
 use refusal::Verdict;
 

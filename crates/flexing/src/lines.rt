@@ -1,6 +1,5 @@
 // The call over many lines: its checks, and then each line flexed by its own items.
 ghost use mathlib.Core.Path.{_≡_};
-ghost use mathlib.Core.Bool.{_&&_};
 ghost use Prim.Native.Nat.{_≤_, min};
 ghost use lib.ListN.{length};
 ghost use Rattle.grid.specs.Grid.{cleaned};
@@ -10,11 +9,11 @@ ghost use Rattle.flexing.specs.Flex.{outerSum};
 ghost use Rattle.flexing.specs.Call.{lists, count, itemAt, itemsOf};
 ghost use Rattle.flexing.specs.Lines.{divides, division, linesShape, linesInput, AnsweredLines, FlexedByLine};
 ghost use Rattle.flexing.specs.Parts.{CheckedLines};
+use crate::checks::has_room;
+use crate::checks::is_alike;
 use refusal::Answer;
 use refusal::Mark;
 use refusal::Verdict;
-use crate::checks::has_room;
-use crate::checks::is_alike;
 
 fn shorter(a: usize, b: usize) -> usize
     ensures { λ r. ⌜ r ≡ min a b ⌝ }

@@ -1,8 +1,7 @@
 -- The cells of the free spaces past the last line: the loop has cleared those before j. Assumes nothing.
-use mathlib.Core.Path.{_≡_, refl, sym, ap, _∙_, subst}
-use Prim.Native.Nat.{ℕ, _+_, _-_, _*_, _≤_, _<_}
+use mathlib.Core.Path.{sym, subst}
+use Prim.Native.Nat.{_+_, _-_}
 use native.Mathlib.Omega.{arith}
-use lib.ListN.{length, getD}
 use mathlib.Core.List.{List}
 use lib.IntN.{ℤ, pos}
 use denote.Ref.{now}
@@ -26,7 +25,7 @@ store-free-requires : tie.Need-store-free-requires Inv-loop μ-loop
 store-free-requires c κs = let l = c .before .before .loop in omega (arith, c .before .loop-test .taken, c .before .before .before .pre .1, l .inv .cleared .long)
 
 add-j : tie.Need-add-j Inv-loop μ-loop
-add-j c = 
+add-j c =
     let s = c .before .before .before .before .before in
     omega (arith, c .before .before .before .loop-test .taken, s .pre .1, s .good .0 .0)
 
@@ -34,7 +33,7 @@ loop-less : tie.Need-loop-less Inv-loop μ-loop
 loop-less c = omega (arith, c .before .before .before .loop-test .taken)
 
 loop-again : tie.Need-loop-again Inv-loop μ-loop
-loop-again c = 
+loop-again c =
     let s = c .before .before .before .before .before in
     let l = c .before .before .before .before .loop in
     subst (λ (x : List ℤ). Clearing (pos 0) (s .args .from) (s .args .n) (now (s .args .free)) x (l .j + 1)) (sym (c .before .store-free .ensures)) (clear-next (pos 0) (s .args .from) (s .args .n) (now (s .args .free)) (l .free) (l .j) (c .before .before .before .loop-test .taken) (s .pre .1) (l .inv))
@@ -43,7 +42,7 @@ same-length : tie.Need-same-length Inv-loop μ-loop
 same-length c = c .before .loop .inv .cleared .long
 
 returns : tie.Need-returns Inv-loop μ-loop
-returns c = 
+returns c =
     let s = c .before .before in
     clear-all (pos 0) (s .args .from) (s .args .n) (now (s .args .free)) (c .before .loop .free) (c .before .loop .j) (c .loop-test .left) (c .before .loop .inv)
 

@@ -22,12 +22,12 @@ flex-each-requires : tie.Need-flex-each-requires
 flex-each-requires c κs = search needs
 
 clear-free-requires : tie.Need-clear-free-requires
-clear-free-requires c κs = 
+clear-free-requires c κs =
     let s = c .before .before .before .before .before .before .before .before .before .before .before .before .before in
     (within s, subst (λ (k : ℕ). s .args .n ≤ k) (sym (c .before .before .before .before .before .before .flex-each .ensures .free-past .long)) (s .pre .divided .free-room))
 
 clear-rounds-requires : tie.Need-clear-rounds-requires
-clear-rounds-requires c κs = 
+clear-rounds-requires c κs =
     let s = c .before .before .before .before .before .before .before .before .before .before .before .before .before .before .before .before in
     (within s, subst (λ (k : ℕ). s .args .n ≤ k) (sym (c .before .before .before .before .before .before .before .before .before .flex-each .ensures .rounds-past .long)) (s .pre .divided .rounds-room))
 
@@ -41,7 +41,7 @@ same-length-3 : tie.Need-same-length-3
 same-length-3 c = search needs
 
 returns : tie.Need-returns
-returns c = 
+returns c =
     let s = c .before .before .before .before .before .before .before .before .before .before .before .before .before .before .before .before .before .before .before in
     let a = s .args in
     let f = c .before .before .before .before .before .before .before .before .before .before .before .before .flex-each in

@@ -1,6 +1,6 @@
 -- Line after line: those before this one are flexed. Assumes nothing.
-use mathlib.Core.Path.{_≡_, refl, sym, ap, _∙_, subst}
-use Prim.Native.Nat.{ℕ, _+_, _-_, _*_, _≤_, _<_}
+use mathlib.Core.Path.{refl, sym, ap, _∙_, subst}
+use Prim.Native.Nat.{ℕ, _+_, _-_}
 use native.Mathlib.Omega.{arith}
 use mathlib.Core.List.{List}
 use lib.ListN.{length, getD, set}
@@ -45,7 +45,7 @@ accepted c =
     (line-inside (s .args .inner) (s .args .gap) (now (s .args .table)) (s .args .n) (now (s .args .counts)) (now (s .args .targets)) (now (s .args .free)) (now (s .args .rounds)) (s .pre) (l .targets) (l .free) (l .rounds) (l .sum) (l .start) (l .line) (l .inv) (c .loop-test .taken))
 
 loop-holds : tie.Need-loop-holds Inv-loop μ-loop
-loop-holds c = 
+loop-holds c =
     let a = c .before .before .before .args in
     going-none (a .inner) (a .gap) (itemIn (now (a .table))) (now (a .counts)) (now (a .targets)) (now (a .free)) (now (a .rounds))
 
@@ -74,7 +74,7 @@ part-flex-items-end : tie.Need-part-flex-items-end Inv-loop μ-loop
 part-flex-items-end c = turn (c .before) .room
 
 flex-items-requires : tie.Need-flex-items-requires Inv-loop μ-loop
-flex-items-requires c κs = 
+flex-items-requires c κs =
     let i = c .before .before in
     let l = i .before .loop in
     let t = turn i in (
@@ -93,7 +93,7 @@ slice-write-rounds : tie.Need-slice-write-rounds Inv-loop μ-loop
 slice-write-rounds c = turn (c .before .before .before .before .before .before .before .before .before .before) .rounds-room
 
 add-sum : tie.Need-add-sum Inv-loop μ-loop
-add-sum c = 
+add-sum c =
     let i = c .before .before .before .before .before .before .before .before .before .before .before in
     let t = turn i in
     omega (arith, t .inside, t .less, c .before .before .before .before .before .before .before .before .flex-items .ensures .few, length-each (count-of i) (λ k. itemIn (now (start-of i .args .table)) (i .before .loop .start + k)))
@@ -105,7 +105,7 @@ loop-less : tie.Need-loop-less Inv-loop μ-loop
 loop-less c = omega (arith, c .before .before .before .before .before .before .before .before .before .before .before .loop-test .taken)
 
 loop-again : tie.Need-loop-again Inv-loop μ-loop
-loop-again c = 
+loop-again c =
     let i = c .before .before .before .before .before .before .before .before .before .before .before in
     let a = start-of i .args in
     let l = i .before .loop in
@@ -126,7 +126,7 @@ same-length-3 : tie.Need-same-length-3 Inv-loop μ-loop
 same-length-3 c = c .before .loop .inv .flowed .rounds-past .long
 
 returns : tie.Need-returns Inv-loop μ-loop
-returns c = 
+returns c =
     let a = c .before .before .before .before .before .args in
     let l = c .before .loop in
     going-all (a .inner) (a .gap) (itemIn (now (a .table))) (now (a .counts)) (now (a .targets)) (now (a .free)) (now (a .rounds)) (l .targets) (l .free) (l .rounds) (l .sum) (l .start) (l .line) (l .inv) (c .loop-test .left)

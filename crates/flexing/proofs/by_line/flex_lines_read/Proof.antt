@@ -1,5 +1,5 @@
 -- Check 6, and the lines flexed where it passes. Assumes nothing.
-use mathlib.Core.Path.{_≡_, refl, sym, ap, _∙_}
+use mathlib.Core.Path.{refl, sym, ap, _∙_}
 use native.Mathlib.Omega.{arith}
 use denote.Ref.{now}
 use Rattle.refusal.specs.Domain.{summed}
@@ -29,19 +29,19 @@ enum-told : tie.Need-enum-told
 enum-told c = search needs
 
 flex-all-requires : tie.Need-flex-all-requires
-flex-all-requires c κs = 
+flex-all-requires c κs =
     let s = c .before .before .before .before .before .before .before .before .before .before in
     let v = c .before .before .before .before .before in
     record { divided = s .pre; within = summed-passed (outerSum (s .args .gap) (itemsIn (now (s .args .table)) 0 (s .args .n))) (sym (v .check-sum .ensures ∙ ap summed (v .before .outer-sum .ensures)) ∙ c .before .before .before .enum-told .given .1) }
 
 cast-t21 : tie.Need-cast-t21
-cast-t21 c = 
+cast-t21 c =
     let s = c .before .before .before .before .before .before .before .before .before .before .before .before .before .before .before .before in
     let a = s .args in
     omega (arith, s .pre .few, counts-few (a .inner) (a .gap) (now (a .table)) (a .n) (now (a .counts)) (now (a .targets)) (now (a .free)) (now (a .rounds)) (s .pre))
 
 returns : tie.Need-returns
-returns c = 
+returns c =
     let v = c .before .before .before in
     (sym (v .check-sum .ensures ∙ ap summed (v .before .outer-sum .ensures)) ∙ c .before .v .given .1, refl, refl, refl)
 
@@ -55,7 +55,7 @@ same-length-3 : tie.Need-same-length-3
 same-length-3 c = search needs
 
 returns-2 : tie.Need-returns-2
-returns-2 c = 
+returns-2 c =
     let v = c .before .before .before .before .before .before .before .before .before .before .before in
     (sym (v .check-sum .ensures ∙ ap summed (v .before .outer-sum .ensures)) ∙ c .before .before .before .before .before .before .before .before .before .enum-told .given .1, refl, c .before .before .before .before .before .flex-all .ensures)
 

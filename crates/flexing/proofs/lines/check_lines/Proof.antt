@@ -36,12 +36,12 @@ enum-told : tie.Need-enum-told
 enum-told c = search needs
 
 mark-numbers-requires : tie.Need-mark-numbers-requires
-mark-numbers-requires c κs = 
+mark-numbers-requires c κs =
     let s = c .before .before .before .before .before .before .before .before .before .before .before .before .before .before .before in
     shape-of (s .args .inner) (s .args .gap) (now (s .args .counts)) (given s) (s .args .room) (sym (c .before .before .check-lengths-with .ensures) ∙ c .enum-told .given .1) .1
 
 mark-counts-requires : tie.Need-mark-counts-requires
-mark-counts-requires c κs = 
+mark-counts-requires c κs =
     let s = c .before .before .before .before .before .before .before .before .before .before .before .before .before .before .before .before in
     shape-of (s .args .inner) (s .args .gap) (now (s .args .counts)) (given s) (s .args .room) (sym (c .before .before .before .check-lengths-with .ensures) ∙ c .before .enum-told .given .1) .0
 
@@ -52,12 +52,12 @@ judge-requires : tie.Need-judge-requires
 judge-requires c κs = search needs
 
 returns : tie.Need-returns
-returns c = 
+returns c =
     let s = c .before .before .before .before .before .before .before .before .before .before .before .before .before .before .before .before in
     sym (ap (λ (v : Verdict). then v (numbers s)) (sym (c .before .before .before .check-lengths-with .ensures) ∙ c .before .v .given .1))
 
 returns-2 : tie.Need-returns-2
-returns-2 c = 
+returns-2 c =
     let s = c .before .before .before .before .before .before .before .before .before .before .before .before .before .before .before .before .before .before .before in
     let m = c .before .before .before in
     c .judge .ensures

@@ -53,13 +53,13 @@ enum-told : tie.Need-enum-told
 enum-told c = search needs
 
 flex-lines-checked-requires : tie.Need-flex-lines-checked-requires
-flex-lines-checked-requires c κs = 
+flex-lines-checked-requires c κs =
     let s = c .before .before .before .before .before .before .before .before .before .before .before .before .before .before .before .before .before .before .before .before .before .before in
     let a = s .args in
     checked-lines (a .inner) (a .gap) (now (a .counts)) (given s) (now (a .targets)) (now (a .free)) (now (a .rounds)) (said (c .before .before .before .before .before) ∙ c .before .before .before .enum-told .given .1)
 
 returns : tie.Need-returns
-returns c = 
+returns c =
     let s = c .before .before .before .before .before .before .before .before .before .before .before .before .before .before .before .before .before .before .before .before in
     (lines-refused (s .args .inner) (s .args .gap) (now (s .args .counts)) (given s) (room s) _ (said (c .before .before .before) ∙ c .before .v .given .1), refl, refl, refl)
 
@@ -73,7 +73,7 @@ same-length-3 : tie.Need-same-length-3
 same-length-3 c = search needs
 
 returns-2 : tie.Need-returns-2
-returns-2 c = 
+returns-2 c =
     let s = c .before .before .before .before .before .before .before .before .before .before .before .before .before .before .before .before .before .before .before .before .before .before .before .before .before .before .before .before in
     let a = s .args in
     let f = c .before .before .before .before .before .flex-lines-checked in

@@ -26,7 +26,7 @@ clean-requires-2 : tie.Need-clean-requires-2
 clean-requires-2 c κs = search needs
 
 flex-lines-read-requires : tie.Need-flex-lines-read-requires
-flex-lines-read-requires c κs = 
+flex-lines-read-requires c κs =
     let s = c .before .before .before .before .before .before .before .before .before .before .before .before .before .before .before .before .before .before .before .before .before .before in
     let a = s .args in
     let t = c .before .before .before .before .before .before .read-items in
@@ -42,7 +42,7 @@ same-length-3 : tie.Need-same-length-3
 same-length-3 c = search needs
 
 returns : tie.Need-returns
-returns c = 
+returns c =
     let s = c .before .before .before .before .before .before .before .before .before .before .before .before .before .before .before .before .before .before .before .before .before .before .before .before .before .before .before .before in
     let a = s .args in
     let t = c .before .before .before .before .before .before .before .before .before .before .before .before .read-items in

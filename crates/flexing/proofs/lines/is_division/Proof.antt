@@ -44,7 +44,7 @@ loop-less : tie.Need-loop-less Inv-loop μ-loop
 loop-less c = omega (arith, c .before .before .before .loop-test .taken)
 
 loop-again : tie.Need-loop-again Inv-loop μ-loop
-loop-again c = 
+loop-again c =
     let l = c .before .before .before .before .loop in
     counting-next (now (c .before .before .before .before .before .before .args .counts)) (l .positive) (l .sum) (l .j) (c .before .wide .result) (c .has-room .result) (c .before .before .before .loop-test .taken) (c .before .wide .ensures .0) (c .before .wide .ensures .1) (c .has-room .ensures) (l .inv)
 
@@ -52,7 +52,7 @@ is-alike-requires : tie.Need-is-alike-requires Inv-loop μ-loop
 is-alike-requires c κs = tt
 
 returns : tie.Need-returns Inv-loop μ-loop
-returns c = 
+returns c =
     let s = c .before .before .before .before in
     let l = c .before .before .loop in
     c .is-alike .ensures ∙ counting-all (now (s .args .counts)) (l .positive) (l .sum) (l .j) (s .args .n) (c .before .loop-test .left) (l .inv)

@@ -21,12 +21,12 @@ mark-code-requires-2 : tie.Need-mark-code-requires-2
 mark-code-requires-2 c κs = search needs
 
 returns : tie.Need-returns
-returns c = 
+returns c =
     let s = c .before .before .before .before in
     mark-is (now (s .args .counts)) (s .args .n) 0 (c .mark-code .result .0) true (sym (c .before .before .is-division .ensures) ∙ c .before .if1 .taken) refl (c .mark-code .ensures)
 
 returns-2 : tie.Need-returns-2
-returns-2 c = 
+returns-2 c =
     let s = c .before .before .before .before in
     mark-is (now (s .args .counts)) (s .args .n) 1 (c .mark-code2 .result .0) false (sym (c .before .before .is-division .ensures) ∙ c .before .if1 .left) refl (c .mark-code2 .ensures)
 
