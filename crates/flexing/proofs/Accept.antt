@@ -12,7 +12,7 @@ use lib.IntN.{pos, negℤ, natAbs}
 use lib.Ieee.{Float, nan, inf, fin, up, down, ofBits}
 use borrow.Author.Tests.{leb-true, eqb-true}
 use Rattle.grid.specs.Grid.{Length, onGrid, sixtyFourths, cleaned}
-use Rattle.refusal.specs.Domain.{float, code, checked, summed, then}
+use Rattle.refusal.specs.Domain.{Input, float, code, checked, summed, then}
 use Rattle.refusal.specs.Optional.{optional}
 use Rattle.refusal.specs.Marks.{leastMark, judged, AllFine, Sound}
 use Rattle.refusal.specs.declared.Kind.the-variants.{Size}
@@ -31,7 +31,7 @@ use Rattle.flexing.proofs.Each.{each-ext}
 
 -- ---- checks 1 and 2
 
-both : (a b : Bool) → (a && b) ≡ true → (a ≡ true) × (b ≡ true)
+pub both : (a b : Bool) → (a && b) ≡ true → (a ≡ true) × (b ≡ true)
 both true b e = (refl, e)
 both false b e = absurd (false≢true e)
 
@@ -160,6 +160,17 @@ answered-as i i' g g' l l' p q e r old new a =
 
 -- ---- the verdict, from checks 1 to 5 and check 6
 
+-- where one of checks 1 to 5 refuses, the call does
+pub refused-then : (lengths : Verdict) (input : Input) (rest : Verdict) (why : Refusal) → (lengths ≡ Passed → input .count ≤ 1024) → then lengths (judged (leastMark input)) ≡ verdict.Refused why → then lengths (checked input rest) ≡ verdict.Refused why
+refused-then (verdict.Refused w) input rest why f h = h
+refused-then Passed input rest why f h = sym (judged-checked input (f refl) rest) ∙ ap (λ (v : Verdict). then v rest) h
+
+-- and else check 6 decides
+pub passed-then : (lengths : Verdict) (input : Input) (rest : Verdict) → (lengths ≡ Passed → input .count ≤ 1024) → then lengths (judged (leastMark input)) ≡ Passed → then lengths (checked input rest) ≡ rest
+passed-then lengths input rest f h =
+    let p = then-passed lengths (judged (leastMark input)) h in
+    ap (λ (v : Verdict). then v (checked input rest)) (p .0) ∙ sym (judged-checked input (f (p .0)) rest) ∙ ap (λ (v : Verdict). then v rest) (p .1)
+
 module _ (inner gap : Float) (ls : Lists) where
   abbrev marks : Verdict
   marks = judged (leastMark (inputOf inner gap ls))
@@ -175,21 +186,10 @@ module _ (inner gap : Float) (ls : Lists) where
         sound = accepted (inputOf inner gap ls) Passed (sym (judged-checked (inputOf inner gap ls) (e .0 .few) Passed) ∙ ap (λ (v : Verdict). then v Passed) (p .1)) .0;
       }
 
-  -- where one of them refuses, the call does
   pub refused-so : (room : ℕ) (why : Refusal) → then (shapeOf ls room) marks ≡ verdict.Refused why → lineVerdict inner gap ls room ≡ verdict.Refused why
   unfolding lineVerdict
-  refused-so room why h = go (shapeOf ls room) refl h
-    where
-      go : (v : Verdict) → shapeOf ls room ≡ v → then v marks ≡ verdict.Refused why → then v (checked (inputOf inner gap ls) (summed (outerSum (cleaned gap) (itemsOf ls)))) ≡ verdict.Refused why
-      go (verdict.Refused w) e k = k
-      go Passed e k = sym (judged-checked (inputOf inner gap ls) (even-of ls room e .0 .few) (summed (outerSum (cleaned gap) (itemsOf ls)))) ∙ ap (λ (v : Verdict). then v (summed (outerSum (cleaned gap) (itemsOf ls)))) k
+  refused-so room why h = refused-then (shapeOf ls room) (inputOf inner gap ls) (summed (outerSum (cleaned gap) (itemsOf ls))) why (λ e. even-of ls room e .0 .few) h
 
-  -- and else check 6 decides
   pub passed-so : (room : ℕ) → then (shapeOf ls room) marks ≡ Passed → lineVerdict inner gap ls room ≡ summed (outerSum (cleaned gap) (itemsOf ls))
   unfolding lineVerdict
-  passed-so room h =
-      let p = then-passed (shapeOf ls room) marks h in
-      let s = summed (outerSum (cleaned gap) (itemsOf ls)) in
-      ap (λ (v : Verdict). then v (checked (inputOf inner gap ls) s)) (p .0)
-      ∙ sym (judged-checked (inputOf inner gap ls) (even-of ls room (p .0) .0 .few) s)
-      ∙ ap (λ (v : Verdict). then v s) (p .1)
+  passed-so room h = passed-then (shapeOf ls room) (inputOf inner gap ls) (summed (outerSum (cleaned gap) (itemsOf ls))) (λ e. even-of ls room e .0 .few) h

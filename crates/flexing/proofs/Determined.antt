@@ -43,11 +43,11 @@ module _ (inner gap : Float) (items : List Item) (old : List Float) where
 
 -- ---- the call
 
-passes : Verdict → Bool
+unfoldable pub passes : Verdict → Bool
 passes Passed = true
 passes (verdict.Refused why) = false
 
-whyOf : Verdict → Refusal
+unfoldable pub whyOf : Verdict → Refusal
 whyOf Passed = TooManyItems
 whyOf (verdict.Refused why) = why
 

@@ -9,5 +9,8 @@ pub mod Determined
 pub mod Columns
 pub mod Marked
 pub mod Accept
+pub mod Going
+pub mod Division
+pub mod Independent
 pub mod Examples
 pub mod Sign

@@ -20,7 +20,7 @@ use Rattle.grid.proofs.Meaning.{at-of-grid, grid-of-at, none-at}
 use Rattle.grid.proofs.Sums.{abs-add}
 use Rattle.grid.proofs.Convert.{ofInt-at, back32}
 use Rattle.flexing.specs.declared.Item.{Item}
-use Rattle.flexing.specs.Flex.{sumFrom, total, clamp, hypothetical, outer, outerUnits, sumUnits, outerSum, gaps, raised, lowered, nought, _⊕_}
+use Rattle.flexing.specs.Flex.{freeBefore, sumFrom, total, clamp, hypothetical, outer, outerUnits, sumUnits, outerSum, gaps, raised, lowered, nought, _⊕_}
 use Rattle.flexing.specs.Cells.{Measured, Every, Accepted}
 
 -- ---- the hypothetical size is one of the item's lengths
@@ -172,7 +172,7 @@ abs-sub a b p q = le-trans {m = natAbs a + natAbs (negℤ b)} (abs-add a (negℤ
     abs-neg (pos (suc n)) = refl
     abs-neg (negsuc n) = refl
 
-abbrev bits : ℤ → ℤ
+abbrev pub bits : ℤ → ℤ
 bits z = toZ w32 (ofZ w32 z)
 
 pub subtracted : (a b x y : ℤ) → a ≡ x → b ≡ y → natAbs x ≤ 16777216 → natAbs y ≤ 16777216 → SFits w32 (bits a -ℤ bits b) × (bits (bits a -ℤ bits b) ≡ x -ℤ y)
@@ -180,6 +180,10 @@ subtracted a b x y ea eb p q =
     let e : bits a -ℤ bits b ≡ x -ℤ y = ap₂ (λ (m n : ℤ). m -ℤ n) (ap bits ea ∙ back32 x p) (ap bits eb ∙ back32 y q) in
     let s : SFits w32 (x -ℤ y) = record { sfits = mag-small (x -ℤ y) (abs-sub x y p q) } in
     (subst (λ (z : ℤ). SFits w32 z) (sym e) s, ap bits e ∙ toZ-ofZ w32 (x -ℤ y) s)
+
+-- the free space of an accepted line is kept by an i32
+pub free-bits : (inner gap : Float) (items : List Item) → Accepted inner gap items → (z : ℤ) → z ≡ freeBefore inner gap items → bits z ≡ z
+free-bits inner gap items a z e = toZ-ofZ w32 z (record { sfits = mag-small z (subst (λ (y : ℤ). natAbs y ≤ 33554432) (sym e) (abs-sub (sixtyFourths inner) (usedUnits gap items) (a .inner-is .small) (used-small gap items (a .within)))) })
 
 -- ---- an outer size, in an i32
 

@@ -1,3 +1,5 @@
 pub mod Flex
 pub mod Call
 pub mod Cells
+pub mod Lines
+pub mod Parts

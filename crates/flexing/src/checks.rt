@@ -1,18 +1,17 @@
 // Checks 1 to 5 of a call: the lengths of its lists, and the numbers that it takes.
 ghost use mathlib.Core.Path.{_≡_};
-ghost use mathlib.Core.Bool.{_&&_};
-ghost use mathlib.Core.List.{List, [], _∷_};
-ghost use Prim.Native.Nat.{ℕ, _+_, _≤_, max};
+ghost use mathlib.Core.Bool.{true, _&&_};
+ghost use mathlib.Core.List.{[], _∷_};
+ghost use Prim.Native.Nat.{_+_, _≤_, max};
 ghost use lib.Dec.{eqb, leb};
 ghost use lib.ListN.{length};
 ghost use Rattle.refusal.specs.Domain.{float, shape, then};
-ghost use Rattle.refusal.specs.Marks.{leastOf, leastUpTo, leastMark, judged};
+ghost use Rattle.refusal.specs.Marks.{leastOf, leastUpTo, leastMark};
 ghost use Rattle.flexing.specs.Call.{lists, longest, alike, plainAt, besideAt, inputOf};
 ghost use Rattle.flexing.specs.Cells.{Even};
 use refusal::Kind;
 use refusal::Mark;
 use refusal::Verdict;
-use refusal::judge;
 use refusal::least;
 use refusal::mark_float;
 use refusal::mark_floats;
@@ -27,13 +26,13 @@ fn longer(a: usize, b: usize) -> usize
 }
 
 // Whether one length more is n.
-fn is_alike(len: usize, n: usize, rest: bool) -> bool
+pub fn is_alike(len: usize, n: usize, rest: bool) -> bool
     ensures { λ r. ⌜ r ≡ (eqb len n && rest) ⌝ }
 {
     if len == n { rest } else { false }
 }
 
-fn has_room(n: usize, room: usize, rest: bool) -> bool
+pub fn has_room(n: usize, room: usize, rest: bool) -> bool
     ensures { λ r. ⌜ r ≡ (leb n room && rest) ⌝ }
 {
     if n <= room { rest } else { false }
@@ -118,6 +117,44 @@ pub fn check_lengths(
     refusal::check_shape(longest, has_room(base, room, even))
 }
 
+// The same where there are counts too, an input list of its own length.
+pub fn check_lengths_with(
+    counts: usize,
+    base: usize,
+    minimum: usize,
+    maximum: usize,
+    has_maximum: usize,
+    edges: usize,
+    grow: usize,
+    shrink: usize,
+    start: usize,
+    end: usize,
+    auto_start: usize,
+    auto_end: usize,
+    room: usize,
+) -> Verdict
+    ensures { λ r. ⌜ r ≡ then (shape counts true) (shape (longest (base ∷ minimum ∷ maximum ∷ «has_maximum» ∷ edges ∷ grow ∷ shrink ∷ start ∷ end ∷ «auto_start» ∷ «auto_end» ∷ [])) (leb base room && alike base (base ∷ minimum ∷ maximum ∷ «has_maximum» ∷ edges ∷ grow ∷ shrink ∷ start ∷ end ∷ «auto_start» ∷ «auto_end» ∷ []))) ⌝ }
+{
+    let v = refusal::check_shape(counts, true);
+    match v {
+        Verdict::Refused(why) => Verdict::Refused(why),
+        Verdict::Passed => check_lengths(
+            base,
+            minimum,
+            maximum,
+            has_maximum,
+            edges,
+            grow,
+            shrink,
+            start,
+            end,
+            auto_start,
+            auto_end,
+            room,
+        ),
+    }
+}
+
 // The marks of the numbers that every item has.
 fn mark_plain<'a>(
     base: &'a [f32],
@@ -147,8 +184,8 @@ fn mark_beside<'a>(kind: Kind, xs: &'a [f32], codes: &'a [u32], taken: u32) -> M
     )
 }
 
-// Checks 3 to 5.
-pub fn check_numbers<'a>(
+// The least mark of all numbers that a line takes.
+pub fn mark_numbers<'a>(
     inner: f32,
     gap: f32,
     base: &'a [f32],
@@ -162,9 +199,9 @@ pub fn check_numbers<'a>(
     end: &'a [f32],
     auto_start: &'a [u32],
     auto_end: &'a [u32],
-) -> Verdict
+) -> Mark
     requires { ⌜ Even (lists (now base) (now minimum) (now maximum) (now «has_maximum») (now edges) (now grow) (now shrink) (now start) (now end) (now «auto_start») (now «auto_end»)) ⌝ }
-    ensures { λ r. ⌜ r ≡ judged (leastMark (inputOf inner gap (lists (now (base .entry)) (now (minimum .entry)) (now (maximum .entry)) (now («has_maximum» .entry)) (now (edges .entry)) (now (grow .entry)) (now (shrink .entry)) (now (start .entry)) (now (end .entry)) (now («auto_start» .entry)) (now («auto_end» .entry))))) ⌝ }
+    ensures { λ r. ⌜ r .0 ≡ leastMark (inputOf inner gap (lists (now (base .entry)) (now (minimum .entry)) (now (maximum .entry)) (now («has_maximum» .entry)) (now (edges .entry)) (now (grow .entry)) (now (shrink .entry)) (now (start .entry)) (now (end .entry)) (now («auto_start» .entry)) (now («auto_end» .entry)))) ⌝ }
 {
     let container = least(
         mark_float(Kind::Size, inner, 0),
@@ -174,5 +211,5 @@ pub fn check_numbers<'a>(
     let maxima = mark_beside(Kind::Size, maximum, has_maximum, 1);
     let starts = mark_beside(Kind::Margin, start, auto_start, 0);
     let ends = mark_beside(Kind::Margin, end, auto_end, 0);
-    judge(least(container, least(plain, least(maxima, least(starts, ends)))))
+    least(container, least(plain, least(maxima, least(starts, ends))))
 }

@@ -6,12 +6,14 @@ ghost use Rattle.grid.specs.Grid.{Length, cleaned};
 ghost use Rattle.refusal.specs.Domain.{summed, then};
 ghost use Rattle.refusal.specs.Marks.{leastMark, judged};
 ghost use Rattle.flexing.specs.Flex.{outerSum};
-ghost use Rattle.flexing.specs.Call.{lists, itemsOf, inputOf, shapeOf, lineVerdict, Answered, FlexedLine};
+ghost use Rattle.flexing.specs.Call.{lists, itemsOf, inputOf, shapeOf, Answered, FlexedLine};
 ghost use Rattle.flexing.specs.Cells.{itemsIn, Tabled, Checked};
 use refusal::Verdict;
 
+mod by_line;
 mod checks;
 mod flex;
+pub mod lines;
 mod rounds;
 mod sizes;
 mod sum;
@@ -159,7 +161,7 @@ fn check_line<'a>(
     );
     match v {
         Verdict::Refused(why) => Verdict::Refused(why),
-        Verdict::Passed => checks::check_numbers(
+        Verdict::Passed => refusal::judge(checks::mark_numbers(
             inner,
             gap,
             base,
@@ -173,7 +175,7 @@ fn check_line<'a>(
             end,
             auto_start,
             auto_end,
-        ),
+        )),
     }
 }
 

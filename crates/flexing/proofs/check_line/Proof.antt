@@ -12,7 +12,8 @@ use Rattle.flexing.proofs.check_line.Tie as tie
 use Rattle.flexing.proofs.check_line.Reads as reads
 use Rattle.flexing.proofs.check_line.Lts as lts
 use Rattle.flexing.proofs.checks.check_lengths.Reads as check-lengths-reads
-use Rattle.flexing.proofs.checks.check_numbers.Reads as check-numbers-reads
+use Rattle.flexing.proofs.checks.mark_numbers.Reads as mark-numbers-reads
+use Rattle.refusal.proofs.judge.Reads as judge-reads
 
 -- the lists that the function is called with
 abbrev given : tie.Start → Lists
@@ -27,10 +28,13 @@ enum-known-v c = search needs
 enum-told : tie.Need-enum-told
 enum-told c = search needs
 
-check-numbers-requires : tie.Need-check-numbers-requires
-check-numbers-requires c κs =
+mark-numbers-requires : tie.Need-mark-numbers-requires
+mark-numbers-requires c κs =
     let s = c .before .before .before .before .before .before .before .before .before .before .before .before .before .before in
     even-of (given s) (s .args .room) (sym (c .before .before .check-lengths .ensures) ∙ c .enum-told .given .1) .0
+
+judge-requires : tie.Need-judge-requires
+judge-requires c κs = search needs
 
 returns : tie.Need-returns
 returns c =
@@ -39,8 +43,8 @@ returns c =
 
 returns-2 : tie.Need-returns-2
 returns-2 c =
-    let s = c .before .before .before .before .before .before .before .before .before .before .before .before .before .before .before in
-    c .check-numbers .ensures ∙ sym (ap (λ (v : Verdict). then v (judged (leastMark (inputOf (s .args .inner) (s .args .gap) (given s))))) (sym (c .before .before .before .check-lengths .ensures) ∙ c .before .enum-told .given .1))
+    let s = c .before .before .before .before .before .before .before .before .before .before .before .before .before .before .before .before in
+    c .judge .ensures ∙ ap judged (c .before .mark-numbers .ensures) ∙ sym (ap (λ (v : Verdict). then v (judged (leastMark (inputOf (s .args .inner) (s .args .gap) (given s))))) (sym (c .before .before .before .before .check-lengths .ensures) ∙ c .before .before .enum-told .given .1))
 
 pub check-line-spec : {M : Type 1} → statement M
 check-line-spec =
@@ -49,6 +53,7 @@ check-line-spec =
     check-lengths-requires
     enum-known-v
     enum-told
-    check-numbers-requires
+    mark-numbers-requires
+    judge-requires
     returns
     returns-2)
