@@ -1,18 +1,20 @@
--- The table of numbers: a loop that fills a column, and eight columns that hold the items of the lists. Assumes nothing.
-use mathlib.Core.Path.{_≡_, refl, sym, ap, _∙_}
+-- The table of numbers: a loop that fills a column, eight columns that hold the items of the lists, and the items of a table that holds them. Assumes nothing.
+use mathlib.Core.Path.{_≡_, refl, sym, ap, _∙_, subst}
 use mathlib.Core.Logic.{_⊎_, inl, inr}
 use mathlib.Core.Bool.{false}
-use mathlib.Core.List.{List}
-use Prim.Native.Nat.{ℕ, _+_, _≤_, _<_, zero-le}
+use mathlib.Core.List.{List, [], _∷_, _++_}
+use Prim.Native.Nat.{ℕ, zero, suc, _+_, _≤_, _<_, zero-le}
 use native.Mathlib.Nat.{lt-of-lt-of-le, zero-add}
 use native.Mathlib.Omega.{arith}
 use borrow.Author.Count.{below-none, below-more}
 use lib.ListN.{length, getD, set, length-set}
 use lib.Seq.{getD-set-same, getD-set-other}
 use lib.Ieee.{Float, nan, inf}
+use Rattle.flexing.specs.declared.Item.{Item}
 use Rattle.flexing.specs.Flex.{nought}
-use Rattle.flexing.specs.Call.{Lists, read, readWhere}
-use Rattle.flexing.specs.Cells.{Stored, Even, Held}
+use Rattle.flexing.specs.Items.{Lists, count, read, readWhere, itemAt, each, itemsOf}
+use Rattle.flexing.specs.Cells.{itemIn, itemsIn, Stored, Measured, Every, Tabled, Even, Held}
+use Rattle.flexing.proofs.Each.{each-ext}
 
 -- the first i cells of the column are written
 pub record Filling (column n : ℕ) (f : ℕ → Float) (old new : List Float) (i : ℕ) : Type 0 where
@@ -71,3 +73,20 @@ held-of ls even t0 t1 t2 t3 t4 t5 t6 t7 t8 x inf-is p0 p1 p2 p3 p4 p5 p6 p7 i h 
     let e6 : getD t8 (6144 + i) nan ≡ readWhere (ls .start) (ls .auto-start) 0 nought i = before p7 (6144 + i) (omega arith) ∙ p6 .here i (omega (arith, even .start)) in
     let e7 : getD t8 (7168 + i) nan ≡ readWhere (ls .end) (ls .auto-end) 0 nought i = p7 .here i (omega (arith, even .end)) in
     rw (e0, e1, e2, e3, e4, e5, e6, e7)
+
+-- ---- the items of the table
+
+pub tabled-of : (ls : Lists) (t : List Float) → Held ls t → ((i : ℕ) → i < count ls → Measured (itemAt ls i)) → Tabled t (count ls)
+tabled-of ls t h m i l = subst Measured (sym (h i l)) (m i l)
+
+pub items-are : (ls : Lists) (t : List Float) → Held ls t → itemsIn t 0 (count ls) ≡ itemsOf ls
+items-are ls t h = each-ext (count ls) (λ i. itemIn t (0 + i)) (itemAt ls) (λ i l. ap (itemIn t) (zero-add i) ∙ h i l)
+
+pub every-each : (n : ℕ) (f : ℕ → Item) → ((i : ℕ) → i < n → Measured (f i)) → Every Measured (each n f)
+unfolding each
+every-each zero f h = tt
+every-each (suc n) f h = snoc (each n f) (every-each n f (λ i l. h i (omega arith)))
+  where
+    snoc : (l : List Item) → Every Measured l → Every Measured (l ++ (f n ∷ []))
+    snoc [] e = (h n (omega arith), tt)
+    snoc (x ∷ l) e = (e .0, snoc l (e .1))

@@ -13,7 +13,7 @@ use Rattle.flexing.specs.declared.Line.{Line}
 use Rattle.flexing.specs.declared.Sums.{Sums}
 use Rattle.flexing.specs.Flex.{Cell, first, gaps, remaining, after, Runs, freeBefore, grows, begun, lineOf, Flexed, _⊕_, _⊖_}
 use Rattle.grid.specs.Grid.{cleaned}
-use Rattle.flexing.specs.Call.{each}
+use Rattle.flexing.specs.Items.{each}
 use Rattle.flexing.specs.Cells.{itemIn, itemsIn, cellAt, cellsOf, Kept, Rewritten, Ran, Summed}
 use Rattle.flexing.proofs.Each.{length-each, map-each}
 use Rattle.flexing.proofs.Round.{remaining-is}

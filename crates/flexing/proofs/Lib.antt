@@ -7,10 +7,5 @@ pub mod Loop
 pub mod Finish
 pub mod Determined
 pub mod Columns
-pub mod Marked
-pub mod Accept
-pub mod Going
-pub mod Division
-pub mod Independent
 pub mod Examples
 pub mod Sign

@@ -12,8 +12,7 @@ use Rattle.grid.specs.Grid.{Length, sixtyFourths}
 use Rattle.flexing.specs.declared.Item.{Item}
 use Rattle.flexing.specs.declared.Line.{Line}
 use Rattle.flexing.specs.declared.Sums.{Sums}
-use Rattle.refusal.specs.Marks.{Sound}
-use Rattle.flexing.specs.Call.{Lists, count, itemAt, inputOf, each}
+use Rattle.flexing.specs.Items.{Lists, count, itemAt, each}
 use Rattle.flexing.specs.Flex.{Cell, taken, factor, weight, total, left, outerSum, after, Runs, _⊕_}
 
 -- ---- the table: a column of 1,024 cells for each number of an item
@@ -111,9 +110,9 @@ pub record Accepted (inner gap : Float) (items : List Item) : Type 0 where
 abbrev pub Tabled : List Float → ℕ → Type 0
 Tabled t n = (i : ℕ) → i < n → Measured (itemIn t i)
 
--- ---- what checks 1 to 5 show of a call
+-- ---- the lists of a call
 
--- the lists are of one length
+-- they are of one length
 pub record Even (ls : Lists) : Type 0 where
   pub few : count ls ≤ 1024
   pub minimum : length (ls .minimum) ≡ count ls
@@ -130,8 +129,3 @@ pub record Even (ls : Lists) : Type 0 where
 -- and the table holds them
 abbrev pub Held : Lists → List Float → Type 0
 Held ls t = (i : ℕ) → i < count ls → itemIn t i ≡ itemAt ls i
-
-pub record Checked (inner gap : Float) (ls : Lists) (targets : List Float) : Type 0 where
-  pub even : Even ls
-  pub room : count ls ≤ length targets
-  pub sound : Sound (inputOf inner gap ls)

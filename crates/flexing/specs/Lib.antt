@@ -1,5 +1,3 @@
 pub mod Flex
-pub mod Call
+pub mod Items
 pub mod Cells
-pub mod Lines
-pub mod Parts

@@ -135,7 +135,7 @@ pub struct Flexing {
     pub rounds: u32,
 }
 
-// Flexes the n items at `from`, which the checks have accepted. What it asks is what they show.
+// Flexes the n items at `from`, which the checks have accepted. No entry point: what it asks is what they show.
 pub fn flex_items(
     table: &[f32; 8192],
     from: usize,

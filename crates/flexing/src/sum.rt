@@ -19,6 +19,7 @@ fn outer_units(it: Item) -> grid::Sixtyfourths
     grid::Sixtyfourths(size.0 + (start.0 + end.0))
 }
 
+// The sum of the items of a table. No entry point: it asks for measured items.
 pub fn outer_sum(table: &[f32; 8192], n: usize, gap: f32) -> u64
     requires { ⌜ (n ≤ 1024) × Length gap × Tabled (now table) n ⌝ }
     ensures { λ r. ⌜ r ≡ outerSum gap (itemsIn (now (table .entry)) 0 n) ⌝ }

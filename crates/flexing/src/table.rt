@@ -5,10 +5,11 @@ ghost use mathlib.Core.Bool.{cond, false};
 ghost use lib.Ieee.{inf};
 ghost use lib.ListN.{length};
 ghost use Rattle.grid.specs.Grid.{cleaned};
-ghost use Rattle.flexing.specs.Call.{lists, read, readWhere};
+ghost use Rattle.flexing.specs.Items.{lists, read, readWhere};
 ghost use Rattle.flexing.specs.Cells.{itemIn, Stored, Even, Held};
 use crate::Item;
 
+// Item i. No entry point: it asks for a place in the table.
 pub fn pick(table: &[f32; 8192], i: usize) -> Item
     requires { ⌜ i < 1024 ⌝ }
     ensures { λ r. ⌜ r ≡ itemIn (now (table .entry)) i ⌝ }
@@ -71,7 +72,7 @@ fn infinity() -> f32
     1.0 / 0.0
 }
 
-// The items of the lists of a call.
+// The items of the lists of a call. No entry point: it asks for lists of one length.
 pub fn read_items<'a>(
     base: &'a [f32],
     minimum: &'a [f32],

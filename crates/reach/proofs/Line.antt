@@ -22,12 +22,13 @@ use Rattle.refusal.specs.declared.Kind.the-variants as kind
 use Rattle.refusal.specs.declared.Verdict.the-variants.{Passed}
 use Rattle.refusal.proofs.Checks.{accepted, then-passed, summed-passed, fine-append, fine-factor}
 use Rattle.flexing.specs.declared.Item.{Item}
-use Rattle.flexing.specs.declared.FlexAnswer.the-variants.{Done}
 use Rattle.flexing.specs.declared.Line.{Line}
 use Rattle.flexing.specs.Flex.{Cell, after, round, begun, first, grows, lineOf, targets, nought, outerSum}
-use Rattle.flexing.specs.Call.{Lists, count, each, itemAt, itemsOf, shapeOf, plainAt, besideAt, inputOf, lineVerdict, FlexedLine}
+use Rattle.flexing.specs.Items.{Lists, count, each, itemAt, itemsOf}
 use Rattle.flexing.proofs.Each.{length-each}
-use Rattle.flexing.proofs.Accept.{even-of}
+use Rattle.flexcalls.specs.declared.FlexAnswer.the-variants.{Done}
+use Rattle.flexcalls.specs.Call.{shapeOf, plainAt, besideAt, inputOf, lineVerdict, FlexedLine}
+use Rattle.flexcalls.proofs.Accept.{even-of}
 use Rattle.reach.specs.Reach.{IsSize, IsMargin, IsFactor, IsItem, IsLine, Each, HandedOn}
 use Rattle.reach.proofs.Reach.{reach}
 

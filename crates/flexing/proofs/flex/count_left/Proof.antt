@@ -7,7 +7,7 @@ use native.Mathlib.Omega.{arith}
 use lib.Ieee.{Float}
 use denote.Ref.{now}
 use Rattle.flexing.specs.Flex.{unfrozen}
-use Rattle.flexing.specs.Call.{each}
+use Rattle.flexing.specs.Items.{each}
 use Rattle.flexing.specs.Cells.{cellAt}
 use Rattle.flexing.proofs.Each.{unfrozen-none, count-turn, count-pass}
 use Rattle.flexing.proofs.flex.count_left.Statement.{statement}

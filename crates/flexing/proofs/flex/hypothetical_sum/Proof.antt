@@ -8,7 +8,7 @@ use lib.Ieee.{Float}
 use denote.Ref.{now}
 use Rattle.flexing.specs.declared.Item.{Item}
 use Rattle.flexing.specs.Flex.{total, outer, hypothetical}
-use Rattle.flexing.specs.Call.{each}
+use Rattle.flexing.specs.Items.{each}
 use Rattle.flexing.specs.Cells.{itemIn}
 use Rattle.flexing.proofs.Each.{total-none, sum-turn}
 use Rattle.flexing.proofs.flex.hypothetical_sum.Statement.{statement}

@@ -11,7 +11,7 @@ use denote.Ref.{now}
 use Rattle.flexing.specs.declared.Item.{Item}
 use Rattle.flexing.specs.declared.Sums.{Sums}
 use Rattle.flexing.specs.Flex.{Cell, taken, factor, weight}
-use Rattle.flexing.specs.Call.{each}
+use Rattle.flexing.specs.Items.{each}
 use Rattle.flexing.specs.Cells.{cellAt, Added, Summed}
 use Rattle.flexing.proofs.Each.{total-none, left-none, sum-turn, left-sum}
 use Rattle.flexing.proofs.rounds.sum_up.Statement.{statement}

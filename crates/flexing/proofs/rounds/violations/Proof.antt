@@ -9,7 +9,7 @@ use lib.Ieee.{Float}
 use denote.Ref.{now}
 use Rattle.flexing.specs.declared.Item.{Item}
 use Rattle.flexing.specs.Flex.{total, left, violation}
-use Rattle.flexing.specs.Call.{each}
+use Rattle.flexing.specs.Items.{each}
 use Rattle.flexing.specs.Cells.{cellAt}
 use Rattle.flexing.proofs.Each.{left-none, left-turn, left-pass}
 use Rattle.flexing.proofs.rounds.violations.Statement.{statement}

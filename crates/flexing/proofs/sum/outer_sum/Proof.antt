@@ -10,7 +10,7 @@ use Rattle.grid.proofs.to_sixtyfourths.Reads as to-sixtyfourths-reads
 use Rattle.refusal.proofs.add_outer.Reads as add-outer-reads
 use Rattle.flexing.specs.declared.Item.{Item}
 use Rattle.flexing.specs.Flex.{outerUnits, outerSum}
-use Rattle.flexing.specs.Call.{each}
+use Rattle.flexing.specs.Items.{each}
 use Rattle.flexing.specs.Cells.{itemIn, Measured}
 use Rattle.flexing.proofs.Each.{outer-none, outer-turn}
 use Rattle.flexing.proofs.Units.{outer-small}

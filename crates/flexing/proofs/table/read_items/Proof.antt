@@ -3,7 +3,7 @@ use mathlib.Core.Path.{_∙_}
 use native.Mathlib.Omega.{arith}
 use lib.Dec.{lit≤}
 use denote.Ref.{now}
-use Rattle.flexing.specs.Call.{Lists, lists}
+use Rattle.flexing.specs.Items.{Lists, lists}
 use Rattle.flexing.proofs.Columns.{held-of}
 use borrow.Author.Needs.{needs}
 use Rattle.flexing.proofs.table.read_items.Statement.{statement}

@@ -5,7 +5,7 @@ use native.Mathlib.Omega.{arith}
 use lib.ListN.{length}
 use denote.Ref.{now}
 use Rattle.grid.proofs.clean.Reads as clean-reads
-use Rattle.flexing.specs.Call.{read}
+use Rattle.flexing.specs.Items.{read}
 use Rattle.flexing.proofs.Columns.{Filling, fill-none, fill-next, fill-all}
 use Rattle.flexing.proofs.table.store.Statement.{statement}
 use Rattle.flexing.proofs.table.store.Tie as tie

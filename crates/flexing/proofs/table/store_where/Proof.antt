@@ -5,7 +5,7 @@ use native.Mathlib.Omega.{arith}
 use lib.Ieee.{Float}
 use lib.ListN.{length}
 use denote.Ref.{now}
-use Rattle.flexing.specs.Call.{readWhere}
+use Rattle.flexing.specs.Items.{readWhere}
 use Rattle.flexing.proofs.Columns.{Filling, fill-none, fill-next, fill-all}
 use Rattle.flexing.proofs.table.store_where.Statement.{statement}
 use Rattle.flexing.proofs.table.store_where.Tie as tie

@@ -1,0 +1,78 @@
+-- Check 6, and the line flexed where it passes. Assumes nothing.
+use mathlib.Core.Path.{refl, sym, ap, _∙_, subst}
+use native.Mathlib.Nat.{zero-add}
+use native.Mathlib.Omega.{arith}
+use Prim.Native.Nat.{ℕ, _+_}
+use denote.Ref.{now}
+use mathlib.Core.List.{List}
+use Rattle.refusal.specs.Domain.{summed}
+use Rattle.refusal.proofs.Checks.{summed-passed}
+use Rattle.flexing.specs.declared.Item.{Item}
+use Rattle.flexing.specs.Flex.{outerSum}
+use Rattle.flexing.specs.Cells.{itemIn, itemsIn, Measured}
+use Rattle.flexing.proofs.Columns.{every-each}
+use borrow.Author.Needs.{needs}
+use Rattle.flexcalls.proofs.flex_read.Statement.{statement}
+use Rattle.flexcalls.proofs.flex_read.Tie as tie
+use Rattle.flexcalls.proofs.flex_read.Reads as reads
+use Rattle.flexcalls.proofs.flex_read.Lts as lts
+use Rattle.flexing.proofs.flex.flex_items.Reads as flex-items-reads
+use Rattle.flexing.proofs.sum.outer_sum.Reads as outer-sum-reads
+use Rattle.refusal.proofs.check_sum.Reads as check-sum-reads
+
+-- the items that the function is called with
+abbrev items : tie.Start → List Item
+items s = itemsIn (now (s .args .table)) 0 (s .args .n)
+
+outer-sum-requires : tie.Need-outer-sum-requires
+outer-sum-requires c κs = search needs
+
+check-sum-requires : tie.Need-check-sum-requires
+check-sum-requires c κs = search needs
+
+enum-known-v : tie.Need-enum-known-v
+enum-known-v c = search needs
+
+enum-told : tie.Need-enum-told
+enum-told c = search needs
+
+flex-items-requires : tie.Need-flex-items-requires
+flex-items-requires c κs =
+    let v = c .before .before .before in
+    let s = v .before .before .before in
+    let t = now (s .args .table) in (
+      omega (arith, s .pre .0),
+      s .pre .1,
+      record {
+        inner-is = s .pre .2;
+        gap-is = s .pre .3;
+        items-are = every-each (s .args .n) (λ i. itemIn t (0 + i)) (λ i l. subst (λ (k : ℕ). Measured (itemIn t k)) (sym (zero-add i)) (s .pre .4 i l));
+        within = summed-passed (outerSum (s .args .gap) (items s)) (sym (v .check-sum .ensures ∙ ap summed (v .before .outer-sum .ensures)) ∙ c .before .enum-told .given .1);
+      },
+    )
+
+returns : tie.Need-returns
+returns c =
+    let v = c .before .before .before in
+    (sym (v .check-sum .ensures ∙ ap summed (v .before .outer-sum .ensures)) ∙ c .before .v .given .1, refl)
+
+same-length : tie.Need-same-length
+same-length c = search needs
+
+returns-2 : tie.Need-returns-2
+returns-2 c =
+    let v = c .before .before .before .before .before .before .before in
+    (sym (v .check-sum .ensures ∙ ap summed (v .before .outer-sum .ensures)) ∙ c .before .before .before .before .before .enum-told .given .1, c .before .before .before .flex-items .ensures)
+
+pub flex-read-spec : {M : Type 1} → statement M
+flex-read-spec =
+    tie.close
+    (tie.spec
+    outer-sum-requires
+    check-sum-requires
+    enum-known-v
+    enum-told
+    flex-items-requires
+    returns
+    same-length
+    returns-2)
