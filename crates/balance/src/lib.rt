@@ -89,8 +89,8 @@ fn divide(
     lines
 }
 
-// The same in lists that may have more cells: the first n of each are lent, and n * n of opts.
-fn divide_within(
+// The same in lists that may have more cells: the first n of each are lent, and n * n of opts. It works on accepted sizes: no entry point.
+pub fn divide_within(
     limit: AvailableSpace,
     gap: f32,
     minimum: u32,

@@ -11,7 +11,7 @@ use lib.Seq.{drop-cons, drop-drop, drop-set-lt, take-suc-set, length-take-le, se
 use lib.IntN.{ℤ, pos}
 use Rattle.breaking.specs.Breaking.{Limit, taken, greedy}
 use Rattle.breaking.specs.Calls.{written}
-use Rattle.breaking.specs.Steps.{Counted, cleared}
+use Rattle.breaking.specs.Steps.{Counted, Listed, filled, cleared}
 use Rattle.breaking.proofs.Taken.{taken-le}
 use Rattle.breaking.proofs.Lines.{greedy-none, greedy-more}
 
@@ -94,23 +94,25 @@ module _ (limit : Limit) (gap : ℤ) (l : List ℤ) (passed : List ℕ) (room : 
 
 -- ---- the cells past the last line
 
-pub clear-none : (from : ℕ) (l : List ℕ) → l ≡ cleared from from l
-clear-none from l = sym (take-append-drop from l) ∙ ap (λ (k : ℕ). take from l ++ (replicate {A = ℕ} k 0 ++ drop from l)) (sym (sub-self from))
+-- a loop that sets one cell a turn, for cells of any type
+module _ {A : Type 0} (z : A) where
+  pub fill-none : (from : ℕ) (l : List A) → l ≡ filled z from from l
+  fill-none from l = sym (take-append-drop from l) ∙ ap (λ (k : ℕ). take from l ++ (replicate k z ++ drop from l)) (sym (sub-self from))
 
-pub clear-more : (from i : ℕ) (l cells : List ℕ) → from ≤ i → i < length l → cells ≡ cleared from i l → set cells i 0 ≡ cleared from (i + 1) l
-clear-more from i l cells h k e =
-    ap (λ (t : List ℕ). set t i 0) (e ∙ ap (λ (t : List ℕ). take from l ++ (replicate (i - from) 0 ++ t)) (drop-cons l i 0 k) ∙ sym (append-assoc (take from l) (replicate (i - from) 0) (getD l i 0 ∷ drop (suc i) l)))
-    ∙ set-at (take from l ++ replicate (i - from) 0) (getD l i 0) (drop (suc i) l) 0 i size
-    ∙ append-assoc (take from l) (replicate (i - from) 0) (0 ∷ drop (suc i) l)
-    ∙ ap (λ (t : List ℕ). take from l ++ t)
-    (sym (append-assoc (replicate (i - from) 0) (0 ∷ []) (drop (suc i) l))
-    ∙ ap₂ (λ (t r : List ℕ). t ++ r) (replicate-append-replicate (i - from) 1 0 ∙ ap (λ (m : ℕ). replicate m 0) more) (ap (λ (m : ℕ). drop m l) (sym (add-one i))))
-  where
-    size : length (take from l ++ replicate (i - from) 0) ≡ i
-    size = omega (arith, length-append (take from l) (replicate (i - from) 0), length-take-le from l (omega arith), length-replicate {A = ℕ} (i - from) 0)
+  pub fill-more : (from i : ℕ) (l cells : List A) → from ≤ i → i < length l → cells ≡ filled z from i l → set cells i z ≡ filled z from (i + 1) l
+  fill-more from i l cells h k e =
+      ap (λ (t : List A). set t i z) (e ∙ ap (λ (t : List A). take from l ++ (replicate (i - from) z ++ t)) (drop-cons l i z k) ∙ sym (append-assoc (take from l) (replicate (i - from) z) (getD l i z ∷ drop (suc i) l)))
+      ∙ set-at (take from l ++ replicate (i - from) z) (getD l i z) (drop (suc i) l) z i size
+      ∙ append-assoc (take from l) (replicate (i - from) z) (z ∷ drop (suc i) l)
+      ∙ ap (λ (t : List A). take from l ++ t)
+      (sym (append-assoc (replicate (i - from) z) (z ∷ []) (drop (suc i) l))
+      ∙ ap₂ (λ (t r : List A). t ++ r) (replicate-append-replicate (i - from) 1 z ∙ ap (λ (m : ℕ). replicate m z) more) (ap (λ (m : ℕ). drop m l) (sym (add-one i))))
+    where
+      size : length (take from l ++ replicate (i - from) z) ≡ i
+      size = omega (arith, length-append (take from l) (replicate (i - from) z), length-take-le from l (omega arith), length-replicate {A = A} (i - from) z)
 
-    more : i - from + 1 ≡ i + 1 - from
-    more = omega arith
+      more : i - from + 1 ≡ i + 1 - from
+      more = omega arith
 
 pub counted-long : {lines before cells : List ℕ} {r : ℕ} → Counted lines before r cells → r ≤ length before → length cells ≡ length before
 counted-long {lines} {before} {cells} {r} c h = omega (arith, ap length (c .cells), length-append lines (drop r before), length-drop r before, c .number)
@@ -128,3 +130,6 @@ all-written lines before cells r n c h =
         ∙ drop-append-add lines (drop r before) (n - r)
         ∙ drop-drop (n - r) r before
         ∙ ap (λ (k : ℕ). drop k before) (add-sub-of-le h)
+
+pub listed : {lines before cells : List ℕ} {r : ℕ} (n : ℕ) → Counted lines before r cells → r ≤ n → Listed n lines before r (cleared r n cells)
+listed {lines} {before} {cells} {r} n c h = record { number = c .number; cells = all-written lines before cells r n c h }

@@ -10,7 +10,7 @@ use Rattle.refusal.specs.Marks.{Lengths}
 use Rattle.breaking.specs.declared.AvailableSpace.{AvailableSpace}
 use Rattle.breaking.specs.declared.AvailableSpace.the-variants.{Definite, MinContent, MaxContent}
 use Rattle.breaking.specs.Breaking.{limitOf, taken}
-use Rattle.breaking.specs.Calls.{outerSum, units}
+use Rattle.breaking.specs.Calls.{outerSum, units, written}
 
 -- a definite limit is a length
 abbrev pub LengthLimit : AvailableSpace → Type 0
@@ -36,6 +36,14 @@ pub record Counted (lines before : List ℕ) (r : ℕ) (after : List ℕ) : Type
   pub number : r ≡ length lines
   pub cells : after ≡ lines ++ drop r before
 
--- 0 in the cells from one up to another, the others unchanged
+-- the same with 0 in the cells past the last line, of n
+pub record Listed (n : ℕ) (lines before : List ℕ) (r : ℕ) (after : List ℕ) : Type 0 where
+  pub number : r ≡ length lines
+  pub cells : after ≡ written n lines before
+
+-- a value in the cells from one up to another, the others unchanged
+abbrev pub filled : {A : Type 0} → A → ℕ → ℕ → List A → List A
+filled z from to before = take from before ++ (replicate (to - from) z ++ drop to before)
+
 abbrev pub cleared : ℕ → ℕ → List ℕ → List ℕ
-cleared from to before = take from before ++ (replicate (to - from) 0 ++ drop to before)
+cleared from to before = filled 0 from to before

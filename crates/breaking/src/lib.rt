@@ -10,7 +10,7 @@ ghost use Rattle.refusal.specs.Marks.{leastOf};
 ghost use Rattle.breaking.specs.Limit.{lowered, raised, raisedTo, numberOr, underMaximum, keepsSpace, withoutMaximum, byMaximum, breakLimit, spaceNumbers, boundNumbers, limitVerdict, limitCall};
 ghost use Rattle.breaking.specs.Breaking.{limitOf, fits, greedy};
 ghost use Rattle.breaking.specs.Calls.{breakingVerdict, units, broken, greedyCall};
-ghost use Rattle.breaking.specs.Steps.{LengthLimit, Breakable, LineEnd, Counted, cleared};
+ghost use Rattle.breaking.specs.Steps.{LengthLimit, Breakable, LineEnd, Counted, Listed, cleared};
 use refusal::Answer;
 use refusal::Kind;
 use refusal::Mark;
@@ -260,6 +260,16 @@ pub fn clear_counts(counts: &mut [u32], from: usize, to: usize)
     }
 }
 
+// Greedy breaking of sizes that the checks have accepted: no entry point.
+pub fn greedy_checked(limit: AvailableSpace, gap: f32, sizes: &[f32], counts: &mut [u32]) -> usize
+    requires { ⌜ Breakable limit gap (now sizes) × (length (now sizes) ≤ length (now counts)) ⌝ }
+    ensures { λ r. ⌜ Listed (length (now (sizes .entry))) (greedy (limitOf limit) (sixtyFourths gap) (units (now (sizes .entry)))) (now (counts .entry)) r (now (counts .exit)) ⌝ }
+{
+    let n = greedy_counts(sizes, gap, limit, counts);
+    clear_counts(counts, n, sizes.len());
+    n
+}
+
 // Greedy breaking of any bits.
 pub fn greedy(limit: AvailableSpace, gap: f32, sizes: &[f32], counts: &mut [u32]) -> Answer
     ensures { λ r. ⌜ broken r (now (counts .exit)) ≡ greedyCall limit gap (now (sizes .entry)) (now (counts .entry)) ⌝ }
@@ -274,10 +284,9 @@ pub fn greedy(limit: AvailableSpace, gap: f32, sizes: &[f32], counts: &mut [u32]
     match v {
         Verdict::Refused(why) => Answer::Refused(why),
         Verdict::Passed => {
-            let n = greedy_counts(sizes, gap, limit, counts);
-            clear_counts(counts, n, sizes.len());
+            let lines = greedy_checked(limit, gap, sizes, counts);
             Answer::Done {
-                lines: n as u32,
+                lines: lines as u32,
                 rounds: 0,
             }
         }

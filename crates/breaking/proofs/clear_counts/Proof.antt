@@ -8,7 +8,7 @@ use lib.ListN.{length, length-set}
 use denote.Ref.{now}
 use borrow.Author.Needs.{scaled-fits}
 use Rattle.breaking.specs.Steps.{cleared}
-use Rattle.breaking.proofs.Counts.{clear-none, clear-more}
+use Rattle.breaking.proofs.Counts.{fill-none, fill-more}
 use Rattle.breaking.proofs.clear_counts.Statement.{statement}
 use Rattle.breaking.proofs.clear_counts.Tie as tie
 
@@ -25,7 +25,7 @@ abbrev μ-loop : tie.MeasureT-loop
 μ-loop counts₀ from to i₀ counts i = to - i
 
 loop-holds : tie.Need-loop-holds Inv-loop μ-loop
-loop-holds c = record { after = omega arith; inside = omega arith; long = refl; zeros = clear-none (c .args .from) (now (c .args .counts)) }
+loop-holds c = record { after = omega arith; inside = omega arith; long = refl; zeros = fill-none 0 (c .args .from) (now (c .args .counts)) }
 
 inside : (c : tie.In-loop Inv-loop μ-loop) → c .before .loop .i < length (now (c .before .before .args .counts))
 inside c = omega (arith, c .loop-test .taken, c .before .before .pre .1)
@@ -50,7 +50,7 @@ loop-again c =
       after = omega (arith, l .inv .after);
       inside = omega (arith, c .loop-test .taken);
       long = length-set (l .counts) (l .i) 0 ∙ l .inv .long;
-      zeros = clear-more (s .from) (l .i) (now (s .counts)) (l .counts) (l .inv .after) (inside c) (l .inv .zeros);
+      zeros = fill-more 0 (s .from) (l .i) (now (s .counts)) (l .counts) (l .inv .after) (inside c) (l .inv .zeros);
     }
 
 same-length : tie.Need-same-length Inv-loop μ-loop

@@ -1,4 +1,4 @@
--- `greedy` meets its contract: where the checks pass, the counts and then zeros are written (Counts.antt); where they refuse, nothing is. Assumes nothing.
+-- `greedy` meets its contract: where the checks pass, it is `greedy_checked`; where they refuse, nothing is written. Assumes nothing.
 use mathlib.Core.Path.{_≡_, sym, ap, ap₂, _∙_}
 use mathlib.Core.List.{List, []}
 use Prim.Native.Nat.{ℕ, _≤_}
@@ -19,7 +19,6 @@ use Rattle.breaking.specs.Calls.{breakingVerdict, units, broken, brokenI
 use Rattle.breaking.specs.Steps.{Breakable}
 use Rattle.breaking.proofs.Accepted.{breakable}
 use Rattle.breaking.proofs.Lines.{greedy-few}
-use Rattle.breaking.proofs.Counts.{counted-long, all-written}
 use borrow.Author.Needs.{needs}
 use Rattle.breaking.proofs.greedy.Statement.{statement}
 use Rattle.breaking.proofs.greedy.Tie as tie
@@ -54,29 +53,16 @@ enum-known-v c = search needs
 enum-told : tie.Need-enum-told
 enum-told c = search needs
 
-greedy-counts-requires : tie.Need-greedy-counts-requires
-greedy-counts-requires c κs = given (c .before)
+greedy-checked-requires : tie.Need-greedy-checked-requires
+greedy-checked-requires c κs = given (c .before)
 
--- there are no more lines than items
-few : (c : tie.After-greedy-counts) → c .greedy-counts .result ≤ length (now (c .before .before .before .before .before .before .before .before .args .sizes))
-few c =
-    let a = c .before .before .before .before .before .before .before .before .args in
+-- there are few lines
+cast-t15 : tie.Need-cast-t15
+cast-t15 c =
+    let g = c .before .before in
+    let a = g .before .before .before .before .before .before .before .before .args in
     let f = greedy-few (limitOf (a .limit)) (sixtyFourths (a .gap)) (units (now (a .sizes))) in
-    omega (arith, c .greedy-counts .ensures .number, length-map (now (a .sizes)) sixtyFourths)
-
-clear-counts-requires : tie.Need-clear-counts-requires
-clear-counts-requires c κs =
-    let g = c .before .before .before in
-    let f = few g in
-    let r = given (g .before .before) .1 in
-    let l = counted-long (g .greedy-counts .ensures) (omega arith) in
-    (omega arith, omega arith)
-
-cast-t19 : tie.Need-cast-t19
-cast-t19 c =
-    let g = c .before .before .before .before .before .before in
-    let b = given (g .before .before) .0 .few in
-    omega (arith, few g)
+    omega (arith, g .greedy-checked .ensures .number, length-map (now (a .sizes)) sixtyFourths, given (g .before .before) .0 .few)
 
 returns : tie.Need-returns
 returns c =
@@ -89,11 +75,11 @@ same-length c = search needs
 
 returns-2 : tie.Need-returns-2
 returns-2 c =
-    let g = c .before .before .before .before .before .before in
+    let g = c .before .before in
     let a = g .before .before .before .before .before .before .before .before .args in
-    let e = g .greedy-counts .ensures in
+    let e = g .greedy-checked .ensures in
     let n = now (a .counts) in
-    ap₂ (λ (k : ℕ) (l : List ℕ). broken (Done k 0) l) (e .number) (c .before .before .clear-counts .ensures ∙ all-written (lines (a .limit) (a .gap) (now (a .sizes))) n _ _ _ e (few g))
+    ap₂ (λ (k : ℕ) (l : List ℕ). broken (Done k 0) l) (e .number) (e .cells)
     ∙ sym (ap (λ (v : Verdict). brokenInto v (lines (a .limit) (a .gap) (now (a .sizes))) (length (now (a .sizes))) n) (sym (verdict (g .before .before .before .before)) ∙ g .before .before .enum-told .given .1))
 
 pub greedy-spec : {M : Type 1} → statement M
@@ -104,9 +90,8 @@ greedy-spec =
     check-breaking-requires
     enum-known-v
     enum-told
-    greedy-counts-requires
-    clear-counts-requires
-    cast-t19
+    greedy-checked-requires
+    cast-t15
     returns
     same-length
     returns-2)
