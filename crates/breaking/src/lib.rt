@@ -45,19 +45,19 @@ pub enum BreakLimit {
     Refused(Refusal),
 }
 
-fn lower(x: f32, y: f32) -> f32
+pub fn lower(x: f32, y: f32) -> f32
     ensures { λ r. ⌜ r ≡ lowered x y ⌝ }
 {
     if y < x { y } else { x }
 }
 
-fn raise(x: f32, y: f32) -> f32
+pub fn raise(x: f32, y: f32) -> f32
     ensures { λ r. ⌜ r ≡ raised x y ⌝ }
 {
     if x < y { y } else { x }
 }
 
-fn raise_to(minimum: Bound, x: f32) -> f32
+pub fn raise_to(minimum: Bound, x: f32) -> f32
     ensures { λ r. ⌜ r ≡ raisedTo minimum x ⌝ }
 {
     match minimum {

@@ -1,3 +1,4 @@
 pub mod Sweep
 pub mod Order
 pub mod Checks
+pub mod Marked

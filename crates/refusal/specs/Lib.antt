@@ -1,3 +1,5 @@
 pub mod Domain
 pub mod Marks
 pub mod Optional
+pub mod Shapes
+pub mod Lists

@@ -10,7 +10,9 @@ ghost use Rattle.grid.specs.Grid.{Length, sixtyFourths};
 ghost use Rattle.refusal.specs.Domain.{gridded, offGrid, inRange, float, code, shape, summed, asAnswer};
 ghost use Rattle.refusal.specs.Marks.{mark, leastUpTo, judged, placeOf, sumUpTo, Lengths};
 
-pub mod optional;
+pub mod optional; // optional.rt: a number that may be absent
+pub mod lists; // lists.rt: the marks of whole lists
+pub mod shapes; // shapes.rt: checks 1 and 2 of the lengths of lists
 
 // What a number is, and so which grid and range it is held to.
 pub enum Kind {

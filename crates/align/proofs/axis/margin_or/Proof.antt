@@ -1,0 +1,21 @@
+-- `align::axis::margin_or` meets its contract: the code's test is the definition's. Assumes nothing.
+use mathlib.Core.Path.{_≡_, refl}
+use borrow.Author.Tests.{eq-eqb, ne-eqb}
+use Rattle.align.specs.Axis.{margin}
+use borrow.Author.Needs.{needs}
+use Rattle.align.proofs.axis.margin_or.Statement.{statement}
+use Rattle.align.proofs.axis.margin_or.Tie as tie
+
+clean-requires : tie.Need-clean-requires
+clean-requires c κs = search needs
+
+returns : tie.Need-returns
+unfolding margin
+returns c = rw (eq-eqb _ _ (c .before .if1 .taken)) (c .clean .ensures)
+
+returns-2 : tie.Need-returns-2
+unfolding margin
+returns-2 c = rw (ne-eqb _ _ (c .if1 .left))
+
+pub margin-or-spec : {M : Type 1} → statement M
+margin-or-spec = tie.close (tie.spec clean-requires returns returns-2)

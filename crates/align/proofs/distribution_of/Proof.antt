@@ -1,0 +1,25 @@
+-- `align::distribution_of` meets its contract: a code past the table's names is its last. Assumes nothing.
+use mathlib.Core.Path.{sym}
+use native.Mathlib.Omega.{arith}
+use lib.ListN.{List·getD-eq-default}
+use Prim.Native.Nat.{_≤_}
+use Rattle.align.specs.Align.{distributions}
+use Rattle.align.specs.declared.Distribution.the-variants.{SpaceEvenly}
+use borrow.Author.Needs.{needs}
+use Rattle.align.proofs.distribution_of.Statement.{statement}
+use Rattle.align.proofs.distribution_of.Tie as tie
+
+returns : tie.Need-returns
+returns c = search needs
+
+returns-2 : tie.Need-returns-2
+returns-2 c = search needs
+
+returns-3 : tie.Need-returns-3
+returns-3 c = search needs
+
+returns-4 : tie.Need-returns-4
+returns-4 c = let h : 3 ≤ c .before .args .code = omega (arith, c .match .rest .1, c .match .rest .0 .1, c .match .rest .0 .0 .1) in sym (List·getD-eq-default distributions SpaceEvenly h)
+
+pub distribution-of-spec : {M : Type 1} → statement M
+distribution-of-spec = tie.close (tie.spec returns returns-2 returns-3 returns-4)

@@ -1,0 +1,57 @@
+-- `align::fall_back` meets its contract: each arm of the match is a clause of the definition. Assumes nothing.
+use mathlib.Core.Path.{_≡_, sym, _∙_}
+use borrow.Author.Tests.{le-leb, lt-leb}
+use Rattle.align.specs.Align.{fallback}
+use borrow.Author.Needs.{needs}
+use Rattle.align.proofs.fall_back.Statement.{statement}
+use Rattle.align.proofs.fall_back.Tie as tie
+
+enum-known-alignment : tie.Need-enum-known-alignment
+enum-known-alignment c = search needs
+
+enum-known-alignment-2 : tie.Need-enum-known-alignment-2
+enum-known-alignment-2 c = search needs
+
+enum-known-alignment-3 : tie.Need-enum-known-alignment-3
+enum-known-alignment-3 c = search needs
+
+fallback-of-requires : tie.Need-fallback-of-requires
+fallback-of-requires c κs = search needs
+
+returns : tie.Need-returns
+unfolding fallback
+returns c = rw (c .before .before .before .alignment3 .given .1, c .before .if1 .taken) (c .fallback-of .ensures)
+
+fallback-of-requires-2 : tie.Need-fallback-of-requires-2
+fallback-of-requires-2 c κs = search needs
+
+returns-2 : tie.Need-returns-2
+unfolding fallback
+returns-2 c = rw (c .before .before .before .before .alignment3 .given .1, c .before .before .if1 .left, le-leb _ _ (c .before .if2 .taken)) (c .fallback-of2 .ensures)
+
+returns-3 : tie.Need-returns-3
+unfolding fallback
+returns-3 c = rw (c .before .alignment .given .1)
+
+returns-4 : tie.Need-returns-4
+unfolding fallback
+returns-4 c = rw (c .before .alignment2 .given .1)
+
+returns-5 : tie.Need-returns-5
+unfolding fallback
+returns-5 c = rw (c .before .before .before .alignment3 .given .1, c .before .if1 .left, lt-leb _ _ (c .if2 .left))
+
+pub fall-back-spec : {M : Type 1} → statement M
+fall-back-spec =
+    tie.close
+    (tie.spec
+    enum-known-alignment
+    enum-known-alignment-2
+    enum-known-alignment-3
+    fallback-of-requires
+    returns
+    fallback-of-requires-2
+    returns-2
+    returns-3
+    returns-4
+    returns-5)

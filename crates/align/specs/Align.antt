@@ -1,0 +1,126 @@
+-- Document 01, "Main axis": the alignment keywords, their fallback, and the offsets that they give, on either axis. Every operation is one of f32,
+-- rounded once. Assumes nothing.
+use mathlib.Core.Bool.{Bool, true, false, cond, _||_}
+use mathlib.Core.List.{List, [], _∷_}
+use Prim.Native.Nat.{ℕ, _+_, _-_}
+use lib.Dec.{ltb, leb}
+use lib.ListN.{getD}
+use lib.IntN.{pos}
+use lib.Ieee.{Float, binary32, add, sub, mul, div, le, lt, ofInt, ofBits}
+use Rattle.align.specs.declared.Position.{Position}
+use Rattle.align.specs.declared.Position.the-variants.{Start, End, FlexStart, FlexEnd, Center}
+use Rattle.align.specs.declared.Distribution.{Distribution}
+use Rattle.align.specs.declared.Distribution.the-variants.{Stretch, SpaceBetween, SpaceAround, SpaceEvenly}
+use Rattle.align.specs.declared.ContentAlignment.{ContentAlignment}
+use Rattle.align.specs.declared.ContentAlignment.the-variants.{Unsafe, Safe, Spread}
+use Rattle.align.specs.declared.SelfAlignment.{SelfAlignment}
+use Rattle.align.specs.declared.SelfAlignment.the-variants as self
+use Rattle.align.specs.declared.Resolved.{Resolved}
+use Rattle.align.specs.declared.Resolved.the-variants.{At}
+use Rattle.align.specs.declared.Resolved.the-variants as resolved
+
+-- ---- f32
+
+infixl 65 _⊕_
+infixl 65 _⊖_
+infixl 70 _⊗_
+infixl 70 _⊘_
+abbrev pub _⊕_ : Float → Float → Float
+x ⊕ y = add binary32 x y
+
+abbrev pub _⊖_ : Float → Float → Float
+x ⊖ y = sub binary32 x y
+
+abbrev pub _⊗_ : Float → Float → Float
+x ⊗ y = mul binary32 x y
+
+abbrev pub _⊘_ : Float → Float → Float
+x ⊘ y = div binary32 x y
+
+-- 0.0 and 2.0, by their bits; a count as a float
+abbrev pub nought : Float
+nought = ofBits binary32 0
+
+abbrev pub two : Float
+two = ofBits binary32 1073741824
+
+abbrev pub counted : ℕ → Float
+counted n = ofInt binary32 (pos n)
+
+-- ---- the keywords by their codes
+
+-- codes 0 to 3, and 4 for center
+abbrev pub positions : List Position
+positions = Start ∷ End ∷ FlexStart ∷ FlexEnd ∷ []
+
+abbrev pub positionOf : ℕ → Position
+positionOf c = getD positions c Center
+
+-- codes 0 to 2, and 3 for space-evenly
+abbrev pub distributions : List Distribution
+distributions = Stretch ∷ SpaceBetween ∷ SpaceAround ∷ []
+
+abbrev pub distributionOf : ℕ → Distribution
+distributionOf c = getD distributions c SpaceEvenly
+
+-- `justify-content` and `align-content`: 0 to 4 a position, 5 to 9 a safe one, 10 to 13 a distribution
+unfoldable pub contentOf : ℕ → ContentAlignment
+contentOf c = cond (ltb c 5) (Unsafe (positionOf c)) (cond (ltb c 10) (Safe (positionOf (c - 5))) (Spread (distributionOf (c - 10))))
+
+-- `align-self`: 0 to 4 a position, 5 to 9 a safe one, 10 stretch
+unfoldable pub selfOf : ℕ → SelfAlignment
+selfOf c = cond (ltb c 5) (self.Unsafe (positionOf c)) (cond (ltb c 10) (self.Safe (positionOf (c - 5))) self.Stretch)
+
+-- ---- the fallback
+
+-- "space-between and stretch to safe flex-start, space-around and space-evenly to safe center"
+abbrev pub fallbackOf : Distribution → ContentAlignment
+fallbackOf Stretch = Safe FlexStart
+fallbackOf SpaceBetween = Safe FlexStart
+fallbackOf SpaceAround = Safe Center
+fallbackOf SpaceEvenly = Safe Center
+
+-- "Fallback when free ≤ 0 or at most one item"
+unfoldable pub fallback : Float → ℕ → ContentAlignment → ContentAlignment
+fallback free n (Unsafe p) = Unsafe p
+fallback free n (Safe p) = Safe p
+fallback free n (Spread d) = cond (le free nought || leb n 1) (fallbackOf d) (Spread d)
+
+-- "safe with free ≤ 0 means start"
+unfoldable pub madeSafe : Float → ContentAlignment → Resolved
+madeSafe free (Unsafe p) = At p
+madeSafe free (Safe p) = cond (le free nought) (At Start) (At p)
+madeSafe free (Spread d) = resolved.Spread d
+
+-- ---- the offsets
+
+-- "start 0, end free, center free/2; flex-start 0, or free if reversed; flex-end the other"
+unfoldable pub positioned : Float → Bool → Position → Float
+positioned free reversed Start = nought
+positioned free reversed End = free
+positioned free reversed FlexStart = cond reversed free nought
+positioned free reversed FlexEnd = cond reversed nought free
+positioned free reversed Center = free ⊘ two
+
+-- the first: "stretch and space-between 0; space-around free/n/2; space-evenly free/(n+1)"
+unfoldable pub firstOffset : Float → ℕ → Bool → Resolved → Float
+firstOffset free n reversed (At p) = positioned free reversed p
+firstOffset free n reversed (resolved.Spread Stretch) = nought
+firstOffset free n reversed (resolved.Spread SpaceBetween) = nought
+firstOffset free n reversed (resolved.Spread SpaceAround) = free ⊘ counted n ⊘ two
+firstOffset free n reversed (resolved.Spread SpaceEvenly) = free ⊘ counted (n + 1)
+
+-- the later ones: "gap, plus free/(n−1), free/n, free/(n+1) for between, around, evenly"
+unfoldable pub laterOffset : Float → ℕ → Float → Resolved → Float
+laterOffset free n gap (At p) = gap
+laterOffset free n gap (resolved.Spread Stretch) = gap
+laterOffset free n gap (resolved.Spread SpaceBetween) = gap ⊕ free ⊘ counted (n - 1)
+laterOffset free n gap (resolved.Spread SpaceAround) = gap ⊕ free ⊘ counted n
+laterOffset free n gap (resolved.Spread SpaceEvenly) = gap ⊕ free ⊘ counted (n + 1)
+
+-- "Else the item is placed at 0, free or free/2 by its alignment, stretch as flex-start; reversed wrapping exchanges flex-start and flex-end;
+-- safe with negative free is start."
+unfoldable pub selfOffset : Float → Bool → SelfAlignment → Float
+selfOffset free reversed (self.Unsafe p) = positioned free reversed p
+selfOffset free reversed (self.Safe p) = positioned free reversed (cond (lt free nought) Start p)
+selfOffset free reversed self.Stretch = positioned free reversed FlexStart

@@ -1,0 +1,3 @@
+pub mod Align
+pub mod Lists
+pub mod Axis

@@ -1,0 +1,5 @@
+pub mod Largest
+pub mod LineLaws
+pub mod AcrossLaws
+pub mod LineCalled
+pub mod Stretched

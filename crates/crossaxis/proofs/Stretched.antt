@@ -1,0 +1,25 @@
+-- P15 of document 01: lines of 20 and 30 with a gap of 10 in a size of 100 are stretched to 40 and 50. The definitions compute. Assumes nothing.
+use mathlib.Core.Path.{_≡_, refl}
+use mathlib.Core.List.{List, [], _∷_}
+use lib.Ieee.{Float, ofInt, ofBits, add, sub, mul, div, lt}
+use Rattle.grid.specs.Grid.{cleaned}
+use Rattle.align.specs.declared.Distribution.the-variants.{Stretch}
+use Rattle.align.specs.declared.ContentAlignment.the-variants.{Spread}
+use Rattle.breaking.specs.declared.Bound.the-variants.{Absent, Given}
+use Rattle.crossaxis.specs.declared.container.Wrap.the-variants as wrap
+use Rattle.crossaxis.specs.declared.container.Cross.{Cross}
+use Rattle.align.specs.Align.{counted}
+use Rattle.align.specs.Lists.{total}
+use Rattle.align.specs.Axis.{gaps}
+use Rattle.crossaxis.specs.Container.{bounded}
+use Rattle.crossaxis.specs.Lines.{gainTo, gain, grown, grownAt, lineGain}
+
+container : Cross
+container = record { inner = Given (counted 100); minimum = Absent; maximum = Absent; gap = counted 10; wrap = wrap.Wrap }
+
+lines : List Float
+lines = counted 20 ∷ counted 30 ∷ []
+
+stretched : (grownAt (lineGain container (Spread Stretch) lines) lines 0 ≡ counted 40) × (grownAt (lineGain container (Spread Stretch) lines) lines 1 ≡ counted 50)
+unfolding container lines total gaps bounded gainTo gain grown lineGain cleaned ofInt ofBits add sub mul div lt
+stretched = (refl, refl)

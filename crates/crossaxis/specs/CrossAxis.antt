@@ -1,0 +1,81 @@
+-- Document 01, "Cross axis", second half: the items of one line across it. Assumes nothing.
+use mathlib.Core.Path.{_≡_}
+use mathlib.Core.Bool.{Bool, true, false, cond, not, _&&_, _||_}
+use mathlib.Core.List.{List}
+use Prim.Native.Nat.{ℕ, _≤_}
+use lib.ListN.{length, getD}
+use lib.Ieee.{Float}
+use Rattle.grid.specs.Grid.{cleaned}
+use Rattle.align.specs.declared.SelfAlignment.{SelfAlignment}
+use Rattle.align.specs.declared.SelfAlignment.the-variants.{Unsafe, Safe, Stretch}
+use Rattle.crossaxis.specs.declared.cross_size.CrossItem.{CrossItem}
+use Rattle.crossaxis.specs.declared.cross_axis.CrossPlace.{CrossPlace}
+use Rattle.align.specs.Align.{_⊕_, _⊖_, _⊘_, nought, two, selfOf, selfOffset}
+use Rattle.align.specs.Lists.{overwritten}
+use Rattle.crossaxis.specs.CrossSize.{clamp, hypothetical, margins, Items, count, Even, itemAt, yes}
+
+abbrev pub isStretch : SelfAlignment → Bool
+isStretch (Unsafe p) = false
+isStretch (Safe p) = false
+isStretch Stretch = true
+
+-- an item with an auto margin on either side
+abbrev pub hasAuto : CrossItem → Bool
+hasAuto it = it .«auto_start» || it .«auto_end»
+
+-- "Stretched items with auto size and no auto cross margin"
+unfoldable pub isStretched : CrossItem → SelfAlignment → Bool → Bool
+isStretched it alignment auto-size = isStretch alignment && not (hasAuto it) && auto-size
+
+-- ".. take the line less margins, clamped"; the others keep their clamped measured size
+unfoldable pub usedSize : Float → CrossItem → Bool → Float
+usedSize line it stretched = cond stretched (clamp it (line ⊖ margins it)) (hypothetical it)
+
+-- what the line has left beside the item and its margins
+unfoldable pub freeSpace : Float → CrossItem → Float → Float
+freeSpace line it size = line ⊖ (size ⊕ margins it)
+
+-- "Auto margins take all free cross space, halved between two, negative free included"
+unfoldable pub autoMargin : Float → CrossItem → Float
+autoMargin free it = cond (it .«auto_start» && it .«auto_end») (free ⊘ two) free
+
+unfoldable pub startMargin : Float → CrossItem → Float
+startMargin free it = cond (it .«auto_start») (autoMargin free it) (it .start)
+
+unfoldable pub endMargin : Float → CrossItem → Float
+endMargin free it = cond (it .«auto_end») (autoMargin free it) (it .end)
+
+-- "(offset 0) .. Else the item is placed .. by its alignment"
+unfoldable pub crossOffset : Float → Bool → CrossItem → SelfAlignment → Float
+crossOffset free reversed it alignment = cond (hasAuto it) nought (selfOffset free reversed alignment)
+
+-- one item's answers
+unfoldable pub placedItem : Float → Bool → CrossItem → SelfAlignment → Bool → CrossPlace
+placedItem line reversed it alignment auto-size =
+    let size = usedSize line it (isStretched it alignment auto-size) in
+    let free = freeSpace line it size in
+    record { size = cleaned size; start = cleaned (startMargin free it); end = cleaned (endMargin free it); offset = cleaned (crossOffset free reversed it alignment) }
+
+-- ---- the items in lists
+
+-- the codes of `align-self`, and of an auto cross size, beside the items
+pub record Sorted (ls : Items) (alignment auto-size : List ℕ) : Type 0 where
+  pub even : Even ls
+  pub alignment-length : length alignment ≡ count ls
+  pub auto-length : length auto-size ≡ count ls
+
+pub record Room (n : ℕ) (sizes starts ends offsets : List Float) : Type 0 where
+  pub sizes-room : n ≤ length sizes
+  pub starts-room : n ≤ length starts
+  pub ends-room : n ≤ length ends
+  pub offsets-room : n ≤ length offsets
+
+abbrev pub placedAt : Float → Bool → Items → List ℕ → List ℕ → ℕ → CrossPlace
+placedAt line reversed ls alignment auto-size i = placedItem (cleaned line) reversed (itemAt ls i) (selfOf (getD alignment i 0)) (yes auto-size i)
+
+-- the lent cells after the call, beside those before it
+pub record Across (line : Float) (reversed : Bool) (ls : Items) (alignment auto-size : List ℕ) (sizes₀ starts₀ ends₀ offsets₀ sizes starts ends offsets : List Float) : Type 0 where
+  pub sizes-are : sizes ≡ overwritten (count ls) (λ i. placedAt line reversed ls alignment auto-size i .size) sizes₀
+  pub starts-are : starts ≡ overwritten (count ls) (λ i. placedAt line reversed ls alignment auto-size i .start) starts₀
+  pub ends-are : ends ≡ overwritten (count ls) (λ i. placedAt line reversed ls alignment auto-size i .end) ends₀
+  pub offsets-are : offsets ≡ overwritten (count ls) (λ i. placedAt line reversed ls alignment auto-size i .offset) offsets₀

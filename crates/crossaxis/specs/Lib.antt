@@ -1,0 +1,6 @@
+pub mod Container
+pub mod CrossSize
+pub mod Lines
+pub mod CrossAxis
+pub mod Numbers
+pub mod LineCall

@@ -1,0 +1,74 @@
+-- Document 01, "Cross axis": the lines of a container, stretched and placed along the cross axis. Assumes nothing.
+use mathlib.Core.Path.{_≡_}
+use mathlib.Core.Bool.{Bool, true, false, cond}
+use mathlib.Core.List.{List}
+use Prim.Native.Nat.{ℕ}
+use lib.ListN.{length, getD}
+use lib.Ieee.{Float, nan, lt}
+use Rattle.grid.specs.Grid.{cleaned}
+use Rattle.align.specs.declared.Distribution.the-variants.{Stretch, SpaceBetween, SpaceAround, SpaceEvenly}
+use Rattle.align.specs.declared.ContentAlignment.{ContentAlignment}
+use Rattle.align.specs.declared.ContentAlignment.the-variants.{Unsafe, Safe, Spread}
+use Rattle.breaking.specs.declared.Bound.{Bound}
+use Rattle.breaking.specs.declared.Bound.the-variants.{Absent, Given}
+use Rattle.crossaxis.specs.declared.container.Cross.{Cross}
+use Rattle.align.specs.Align.{_⊕_, _⊖_, _⊘_, nought, counted}
+use Rattle.align.specs.Lists.{total, overwritten}
+use Rattle.align.specs.Axis.{gaps, offsets}
+use Rattle.crossaxis.specs.Container.{readCross, innerSize, orBounded, isReversed}
+
+-- "Under stretch"
+abbrev pub stretches : ContentAlignment → Bool
+stretches (Unsafe p) = false
+stretches (Safe p) = false
+stretches (Spread Stretch) = true
+stretches (Spread SpaceBetween) = false
+stretches (Spread SpaceAround) = false
+stretches (Spread SpaceEvenly) = false
+
+abbrev pub else : Bound → Bound → Bound
+else Absent b = b
+else (Given x) b = Given x
+
+-- "the definite (else minimum) size"
+abbrev pub stretchTarget : Cross → Bound
+stretchTarget c = else (innerSize c) (c .minimum)
+
+-- "if lines plus gaps fall short of the .. size, each gains the rest ÷ line count", otherwise nothing
+unfoldable pub gainTo : Bound → Float → ℕ → Float
+gainTo Absent used n = nought
+gainTo (Given size) used n = cond (lt used size) ((size ⊖ used) ⊘ counted n) nought
+
+unfoldable pub gain : Cross → ContentAlignment → Float → ℕ → Float
+gain c alignment used n = cond (stretches alignment) (gainTo (stretchTarget c) used n) nought
+
+-- a line with its gain; "-0.0 reads as 0", also where the gain is 0.0
+unfoldable pub grown : Float → Float → Float
+grown more x = cleaned (x ⊕ more)
+
+abbrev pub grownAt : Float → List Float → ℕ → Float
+grownAt more lines i = grown more (getD lines i nan)
+
+-- "lines plus gaps", each line with its gain
+abbrev pub linesAndGaps : Cross → Float → List Float → Float
+linesAndGaps c more lines = total (grownAt more lines) (length lines) ⊕ gaps (c .gap) (length lines)
+
+unfoldable pub lineGain : Cross → ContentAlignment → List Float → Float
+lineGain c alignment lines = gain c alignment (linesAndGaps c nought lines) (length lines)
+
+-- "an absent inner cross size is lines plus gaps, clamped"
+unfoldable pub containerSize : Cross → ContentAlignment → List Float → Float
+containerSize c alignment lines = orBounded c (innerSize c) (linesAndGaps c (lineGain c alignment lines) lines)
+
+-- "free is that size less lines, then less gaps"
+unfoldable pub freeCross : Cross → ContentAlignment → List Float → Float
+freeCross c alignment lines = containerSize c alignment lines ⊖ total (grownAt (lineGain c alignment lines) lines) (length lines) ⊖ gaps (c .gap) (length lines)
+
+-- the answers of a container whose numbers are read: its inner cross size, the lines' sizes, and their offsets, "reversed wrapping walking from the last"
+pub record Along (c : Cross) (alignment : ContentAlignment) (lines sizes₀ offsets₀ : List Float) (inner : Float) (sizes offsets₁ : List Float) : Type 0 where
+  pub inner-is : inner ≡ cleaned (containerSize c alignment lines)
+  pub sizes-are : sizes ≡ overwritten (length lines) (grownAt (lineGain c alignment lines) lines) sizes₀
+  pub offsets-are : offsets₁ ≡ overwritten (length lines) (offsets (freeCross c alignment lines) (length lines) (c .gap) alignment (isReversed (c .wrap))) offsets₀
+
+abbrev pub Aligned : Cross → ContentAlignment → List Float → List Float → List Float → Float → List Float → List Float → Type 0
+Aligned c = Along (readCross c)

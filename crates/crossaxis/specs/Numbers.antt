@@ -1,0 +1,28 @@
+-- The container's cross axis in numbers: how they are read, and what a call checks of them. Assumes nothing.
+use mathlib.Core.Bool.{Bool, cond}
+use mathlib.Core.List.{List, [], _∷_, _++_}
+use Prim.Native.Nat.{ℕ}
+use lib.Dec.{eqb}
+use lib.Ieee.{Float}
+use Rattle.refusal.specs.Domain.{Number, float, code}
+use Rattle.refusal.specs.Optional.{optional}
+use Rattle.refusal.specs.declared.Kind.the-variants.{Size}
+use Rattle.breaking.specs.declared.Bound.{Bound}
+use Rattle.breaking.specs.declared.Bound.the-variants.{Absent, Given}
+use Rattle.crossaxis.specs.declared.container.Cross.{Cross}
+use Rattle.crossaxis.specs.declared.numbers.CrossNumbers.{CrossNumbers}
+use Rattle.crossaxis.specs.Container.{wrapOf}
+
+-- a number under code 1; under any other it is not taken
+abbrev pub boundOf : ℕ → Float → Bound
+boundOf given x = cond (eqb given 1) (Given x) Absent
+
+unfoldable pub crossOf : CrossNumbers → Cross
+crossOf c = record { inner = boundOf (c .definite) (c .inner); minimum = boundOf (c .floored) (c .minimum); maximum = boundOf (c .capped) (c .maximum); gap = c .gap; wrap = wrapOf (c .wrap) }
+
+-- the code, and the number where it is given
+abbrev pub boundNumbers : ℕ → Float → List Number
+boundNumbers given x = code 1 given ∷ optional (eqb given 1) (float Size x)
+
+abbrev pub crossNumbers : CrossNumbers → List Number
+crossNumbers c = boundNumbers (c .definite) (c .inner) ++ (boundNumbers (c .floored) (c .minimum) ++ (boundNumbers (c .capped) (c .maximum) ++ (float Size (c .gap) ∷ code 4 (c .wrap) ∷ [])))

@@ -1,0 +1,48 @@
+-- `mainaxis::main_call::mark_main_container` meets its contract: two lengths and two codes. Assumes nothing.
+use mathlib.Core.Path.{sym, ap₂, _∙_}
+use mathlib.Core.List.{[], _∷_}
+use Prim.Native.Nat.{min}
+use Rattle.refusal.specs.Domain.{float, code}
+use Rattle.refusal.specs.declared.Kind.the-variants.{Size}
+use Rattle.refusal.proofs.Checks.{least-append}
+use Rattle.refusal.proofs.Marked.{container-two}
+use borrow.Author.Needs.{needs}
+use Rattle.mainaxis.proofs.main_call.mark_main_container.Statement.{statement}
+use Rattle.mainaxis.proofs.main_call.mark_main_container.Tie as tie
+
+mark-float-requires : tie.Need-mark-float-requires
+mark-float-requires c κs = search needs
+
+mark-float-requires-2 : tie.Need-mark-float-requires-2
+mark-float-requires-2 c κs = search needs
+
+least-requires : tie.Need-least-requires
+least-requires c κs = search needs
+
+mark-code-requires : tie.Need-mark-code-requires
+mark-code-requires c κs = search needs
+
+mark-code-requires-2 : tie.Need-mark-code-requires-2
+mark-code-requires-2 c κs = search needs
+
+least-requires-2 : tie.Need-least-requires-2
+least-requires-2 c κs = search needs
+
+least-requires-3 : tie.Need-least-requires-3
+least-requires-3 c κs = search needs
+
+returns : tie.Need-returns
+returns c = c .least3 .ensures ∙ ap₂ min (c .before .before .before .before .least .ensures ∙ ap₂ min (c .before .before .before .before .before .before .mark-float .ensures) (c .before .before .before .before .before .mark-float2 .ensures) ∙ container-two (float Size (c .before .before .before .before .before .before .before .args .inner)) (float Size (c .before .before .before .before .before .before .before .args .gap))) (c .before .least2 .ensures ∙ ap₂ min (c .before .before .before .mark-code .ensures) (c .before .before .mark-code2 .ensures) ∙ container-two (code 13 (c .before .before .before .before .before .before .before .args .justify)) (code 1 (c .before .before .before .before .before .before .before .args .reversed))) ∙ sym (least-append (float Size (c .before .before .before .before .before .before .before .args .inner) ∷ float Size (c .before .before .before .before .before .before .before .args .gap) ∷ []) (code 13 (c .before .before .before .before .before .before .before .args .justify) ∷ code 1 (c .before .before .before .before .before .before .before .args .reversed) ∷ []) 0)
+
+pub mark-main-container-spec : {M : Type 1} → statement M
+mark-main-container-spec =
+    tie.close
+    (tie.spec
+    mark-float-requires
+    mark-float-requires-2
+    least-requires
+    mark-code-requires
+    mark-code-requires-2
+    least-requires-2
+    least-requires-3
+    returns)

@@ -1,0 +1,78 @@
+-- `mainaxis::main_call::place_main` meets its contract: the checks refuse, or the line is placed. Assumes nothing.
+use mathlib.Core.Path.{_≡_, sym, ap, _∙_}
+use denote.Ref.{now}
+use native.Mathlib.Omega.{arith}
+use Rattle.mainaxis.specs.MainAxis.{line}
+use Rattle.mainaxis.proofs.MainCalled.{main-even, main-shape-refused, main-numbers-refused, main-placed, content-same}
+use borrow.Author.Needs.{needs}
+use Rattle.mainaxis.proofs.main_call.place_main.Statement.{statement}
+use Rattle.mainaxis.proofs.main_call.place_main.Tie as tie
+
+check-main-shape-requires : tie.Need-check-main-shape-requires
+check-main-shape-requires c κs = search needs
+
+enum-told : tie.Need-enum-told
+enum-told c = search needs
+
+enum-told-2 : tie.Need-enum-told-2
+enum-told-2 c = search needs
+
+answer-of-requires : tie.Need-answer-of-requires
+answer-of-requires c κs = search needs
+
+returns : tie.Need-returns
+returns c = main-shape-refused (c .before .before .before .before .before .before .before .before .before .before .before .before .args .inner) (c .before .before .before .before .before .before .before .before .before .before .before .before .args .gap) (c .before .before .before .before .before .before .before .before .before .before .before .before .args .justify) (c .before .before .before .before .before .before .before .before .before .before .before .before .args .reversed) (line (now (c .before .before .before .before .before .before .before .before .before .before .before .before .args .targets)) (now (c .before .before .before .before .before .before .before .before .before .before .before .before .args .start)) (now (c .before .before .before .before .before .before .before .before .before .before .before .before .args .end)) (now (c .before .before .before .before .before .before .before .before .before .before .before .before .args .auto-start)) (now (c .before .before .before .before .before .before .before .before .before .before .before .before .args .auto-end))) (now (c .before .before .before .before .before .before .before .before .before .before .before .before .args .offsets)) (now (c .before .before .before .before .before .before .before .before .before .before .before .before .args .used-start)) (now (c .before .before .before .before .before .before .before .before .before .before .before .before .args .used-end)) (c .before .before .before .check-main-shape .ensures) (c .before .enum-told2 .given .1) (c .answer-of .ensures)
+
+check-main-numbers-requires : tie.Need-check-main-numbers-requires
+check-main-numbers-requires c κs = (main-even (c .before .before .before .before .before .before .before .before .before .before .before .args .inner) (c .before .before .before .before .before .before .before .before .before .before .before .args .gap) (c .before .before .before .before .before .before .before .before .before .before .before .args .justify) (c .before .before .before .before .before .before .before .before .before .before .before .args .reversed) (line (now (c .before .before .before .before .before .before .before .before .before .before .before .args .targets)) (now (c .before .before .before .before .before .before .before .before .before .before .before .args .start)) (now (c .before .before .before .before .before .before .before .before .before .before .before .args .end)) (now (c .before .before .before .before .before .before .before .before .before .before .before .args .auto-start)) (now (c .before .before .before .before .before .before .before .before .before .before .before .args .auto-end))) (now (c .before .before .before .before .before .before .before .before .before .before .before .args .offsets)) (now (c .before .before .before .before .before .before .before .before .before .before .before .args .used-start)) (now (c .before .before .before .before .before .before .before .before .before .before .before .args .used-end)) (sym (c .before .before .check-main-shape .ensures) ∙ c .enum-told .given .1)) .0
+
+enum-told-3 : tie.Need-enum-told-3
+enum-told-3 c = search needs
+
+enum-told-4 : tie.Need-enum-told-4
+enum-told-4 c = search needs
+
+answer-of-requires-2 : tie.Need-answer-of-requires-2
+answer-of-requires-2 c κs = search needs
+
+returns-2 : tie.Need-returns-2
+returns-2 c = main-numbers-refused (c .before .before .before .before .before .before .before .before .before .before .before .before .before .before .before .args .inner) (c .before .before .before .before .before .before .before .before .before .before .before .before .before .before .before .args .gap) (c .before .before .before .before .before .before .before .before .before .before .before .before .before .before .before .args .justify) (c .before .before .before .before .before .before .before .before .before .before .before .before .before .before .before .args .reversed) (line (now (c .before .before .before .before .before .before .before .before .before .before .before .before .before .before .before .args .targets)) (now (c .before .before .before .before .before .before .before .before .before .before .before .before .before .before .before .args .start)) (now (c .before .before .before .before .before .before .before .before .before .before .before .before .before .before .before .args .end)) (now (c .before .before .before .before .before .before .before .before .before .before .before .before .before .before .before .args .auto-start)) (now (c .before .before .before .before .before .before .before .before .before .before .before .before .before .before .before .args .auto-end))) (now (c .before .before .before .before .before .before .before .before .before .before .before .before .before .before .before .args .offsets)) (now (c .before .before .before .before .before .before .before .before .before .before .before .before .before .before .before .args .used-start)) (now (c .before .before .before .before .before .before .before .before .before .before .before .before .before .before .before .args .used-end)) (c .before .before .before .before .before .before .check-main-shape .ensures) (c .before .before .before .before .enum-told .given .1) (c .before .before .before .check-main-numbers .ensures) (c .before .enum-told4 .given .1) (c .answer-of2 .ensures)
+
+content-of-requires : tie.Need-content-of-requires
+content-of-requires c κs = search needs
+
+distribute-remaining-free-space-requires : tie.Need-distribute-remaining-free-space-requires
+distribute-remaining-free-space-requires c κs = main-even (c .before .before .before .before .before .before .before .before .before .before .before .before .before .before .before .before .before .before .args .inner) (c .before .before .before .before .before .before .before .before .before .before .before .before .before .before .before .before .before .before .args .gap) (c .before .before .before .before .before .before .before .before .before .before .before .before .before .before .before .before .before .before .args .justify) (c .before .before .before .before .before .before .before .before .before .before .before .before .before .before .before .before .before .before .args .reversed) (line (now (c .before .before .before .before .before .before .before .before .before .before .before .before .before .before .before .before .before .before .args .targets)) (now (c .before .before .before .before .before .before .before .before .before .before .before .before .before .before .before .before .before .before .args .start)) (now (c .before .before .before .before .before .before .before .before .before .before .before .before .before .before .before .before .before .before .args .end)) (now (c .before .before .before .before .before .before .before .before .before .before .before .before .before .before .before .before .before .before .args .auto-start)) (now (c .before .before .before .before .before .before .before .before .before .before .before .before .before .before .before .before .before .before .args .auto-end))) (now (c .before .before .before .before .before .before .before .before .before .before .before .before .before .before .before .before .before .before .args .offsets)) (now (c .before .before .before .before .before .before .before .before .before .before .before .before .before .before .before .before .before .before .args .used-start)) (now (c .before .before .before .before .before .before .before .before .before .before .before .before .before .before .before .before .before .before .args .used-end)) (sym (c .before .before .before .before .before .before .before .before .before .check-main-shape .ensures) ∙ c .before .before .before .before .before .before .before .enum-told .given .1)
+
+same-length : tie.Need-same-length
+same-length c = search needs
+
+same-length-2 : tie.Need-same-length-2
+same-length-2 c = search needs
+
+same-length-3 : tie.Need-same-length-3
+same-length-3 c = search needs
+
+returns-3 : tie.Need-returns-3
+returns-3 c = main-placed (c .before .before .before .before .before .before .before .before .before .before .before .before .before .before .before .before .before .before .before .before .before .before .before .before .before .args .inner) (c .before .before .before .before .before .before .before .before .before .before .before .before .before .before .before .before .before .before .before .before .before .before .before .before .before .args .gap) (c .before .before .before .before .before .before .before .before .before .before .before .before .before .before .before .before .before .before .before .before .before .before .before .before .before .args .justify) (c .before .before .before .before .before .before .before .before .before .before .before .before .before .before .before .before .before .before .before .before .before .before .before .before .before .args .reversed) (line (now (c .before .before .before .before .before .before .before .before .before .before .before .before .before .before .before .before .before .before .before .before .before .before .before .before .before .args .targets)) (now (c .before .before .before .before .before .before .before .before .before .before .before .before .before .before .before .before .before .before .before .before .before .before .before .before .before .args .start)) (now (c .before .before .before .before .before .before .before .before .before .before .before .before .before .before .before .before .before .before .before .before .before .before .before .before .before .args .end)) (now (c .before .before .before .before .before .before .before .before .before .before .before .before .before .before .before .before .before .before .before .before .before .before .before .before .before .args .auto-start)) (now (c .before .before .before .before .before .before .before .before .before .before .before .before .before .before .before .before .before .before .before .before .before .before .before .before .before .args .auto-end))) (now (c .before .before .before .before .before .before .before .before .before .before .before .before .before .before .before .before .before .before .before .before .before .before .before .before .before .args .offsets)) (now (c .before .before .before .before .before .before .before .before .before .before .before .before .before .before .before .before .before .before .before .before .before .before .before .before .before .args .used-start)) (now (c .before .before .before .before .before .before .before .before .before .before .before .before .before .before .before .before .before .before .before .before .before .before .before .before .before .args .used-end)) (c .before .before .before .before .before .before .before .before .before .before .before .before .before .before .before .before .check-main-shape .ensures) (c .before .before .before .before .before .before .before .before .before .before .before .before .before .before .enum-told .given .1) (c .before .before .before .before .before .before .before .before .before .before .before .before .before .check-main-numbers .ensures) (c .before .before .before .before .before .before .before .before .before .before .before .enum-told3 .given .1) (content-same (c .before .before .before .before .before .before .before .before .before .before .content-of .ensures) (c .before .before .before .before .before .before .distribute-remaining-free-space .ensures))
+
+pub place-main-spec : {M : Type 1} → statement M
+place-main-spec =
+    tie.close
+    (tie.spec
+    check-main-shape-requires
+    enum-told
+    enum-told-2
+    answer-of-requires
+    returns
+    check-main-numbers-requires
+    enum-told-3
+    enum-told-4
+    answer-of-requires-2
+    returns-2
+    content-of-requires
+    distribute-remaining-free-space-requires
+    same-length
+    same-length-2
+    same-length-3
+    returns-3)

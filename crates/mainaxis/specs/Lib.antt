@@ -1,0 +1,2 @@
+pub mod MainAxis
+pub mod MainCall

@@ -1,0 +1,25 @@
+-- Checks 1 and 2 of a call, from the lengths of its lists (document 01, "Domain and refusal numbers"). Assumes nothing.
+use mathlib.Core.Bool.{Bool, true, false, _&&_}
+use mathlib.Core.List.{List, [], _∷_}
+use Prim.Native.Nat.{ℕ, max}
+use lib.Dec.{eqb, leb}
+use Rattle.refusal.specs.Domain.{shape}
+use Rattle.refusal.specs.declared.Verdict.{Verdict}
+
+abbrev pub longest : List ℕ → ℕ
+longest [] = 0
+longest (k ∷ l) = max k (longest l)
+
+-- all lengths are n
+abbrev pub alike : ℕ → List ℕ → Bool
+alike n [] = true
+alike n (k ∷ l) = eqb k n && alike n l
+
+-- all lent lists have n cells, and the rest holds too
+abbrev pub roomy : ℕ → List ℕ → Bool → Bool
+roomy n [] rest = rest
+roomy n (k ∷ l) rest = leb n k && roomy n l rest
+
+-- the lists are of one length n, and each of the lent ones has room
+abbrev pub shapeOf : List ℕ → List ℕ → ℕ → Verdict
+shapeOf lengths rooms n = shape (longest lengths) (roomy n rooms (alike n lengths))
