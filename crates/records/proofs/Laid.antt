@@ -1,0 +1,74 @@
+-- All items stored are `numbersOf` and `codesOf`, and the cells after them as they were: `Columns` at an item's fields. Assumes nothing.
+use mathlib.Core.Path.{_≡_}
+use Prim.Native.Nat.{ℕ, _*_, _≤_}
+use mathlib.Core.List.{List, [], _∷_, _++_}
+use mathlib.Core.Bool.{false}
+use lib.IntN.{pos}
+use lib.Ieee.{Float, fin}
+use lib.ListN.{length, take, drop, getD}
+use Rattle.records.specs.declared.Item.{Item}
+use Rattle.records.specs.Items.{numbersIn, codesIn, numbersOf, codesOf}
+use Rattle.records.proofs.Columns.{laid, length-laid, laid-all}
+
+-- what stands past the end of a list of items
+abbrev nought : Float
+nought = fin false 0 (pos 0)
+
+abbrev pub blank : Item
+blank = record {
+  «main_base» = nought;
+  «main_minimum» = nought;
+  «main_maximum» = nought;
+  «main_edges» = nought;
+  grow = nought;
+  shrink = nought;
+  «main_start» = nought;
+  «main_end» = nought;
+  «cross_measured» = nought;
+  «cross_minimum» = nought;
+  «cross_maximum» = nought;
+  «cross_edges» = nought;
+  «cross_start» = nought;
+  «cross_end» = nought;
+  «has_main_maximum» = 0;
+  «auto_main_start» = 0;
+  «auto_main_end» = 0;
+  «has_cross_maximum» = 0;
+  «auto_cross_start» = 0;
+  «auto_cross_end» = 0;
+  «align_self» = 0;
+  «auto_cross_size» = 0;
+}
+
+abbrev pub itemAt : List Item → ℕ → Item
+itemAt xs i = getD xs i blank
+
+-- the lists once i of m items are stored
+abbrev pub numbersLaid : ℕ → List Item → List Float → ℕ → List Float
+numbersLaid m xs l i = laid m xs numbersIn blank l i
+
+abbrev pub codesLaid : ℕ → List Item → List ℕ → ℕ → List ℕ
+codesLaid m xs l i = laid m xs codesIn blank l i
+
+pub length-numbers : (m : ℕ) (xs : List Item) (l : List Float) (i : ℕ) → length (numbersLaid m xs l i) ≡ length l
+length-numbers m xs l i = length-laid m xs numbersIn blank l i
+
+pub length-codes : (m : ℕ) (xs : List Item) (l : List ℕ) (i : ℕ) → length (codesLaid m xs l i) ≡ length l
+length-codes m xs l i = length-laid m xs codesIn blank l i
+
+abbrev numberFields : List (Item → Float)
+numberFields =
+    (λ (x : Item). x .«main_minimum») ∷ (λ (x : Item). x .«main_maximum») ∷ (λ (x : Item). x .«main_edges») ∷ (λ (x : Item). x .grow) ∷ (λ (x : Item). x .shrink) ∷ (λ (x : Item). x .«main_start»)
+    ∷ (λ (x : Item). x .«main_end») ∷ (λ (x : Item). x .«cross_measured») ∷ (λ (x : Item). x .«cross_minimum») ∷ (λ (x : Item). x .«cross_maximum») ∷ (λ (x : Item). x .«cross_edges»)
+    ∷ (λ (x : Item). x .«cross_start») ∷ (λ (x : Item). x .«cross_end») ∷ []
+
+abbrev codeFields : List (Item → ℕ)
+codeFields =
+    (λ (x : Item). x .«auto_main_start») ∷ (λ (x : Item). x .«auto_main_end») ∷ (λ (x : Item). x .«has_cross_maximum») ∷ (λ (x : Item). x .«auto_cross_start») ∷ (λ (x : Item). x .«auto_cross_end»)
+    ∷ (λ (x : Item). x .«align_self») ∷ (λ (x : Item). x .«auto_cross_size») ∷ []
+
+pub all-numbers : (m : ℕ) (xs : List Item) (l : List Float) → m ≤ length xs → 14 * m ≤ length l → numbersLaid m xs l m ≡ numbersOf (take m xs) ++ drop (14 * m) l
+all-numbers m xs l few h = laid-all m xs (λ (x : Item). x .«main_base») numberFields blank l few h
+
+pub all-codes : (m : ℕ) (xs : List Item) (l : List ℕ) → m ≤ length xs → 8 * m ≤ length l → codesLaid m xs l m ≡ codesOf (take m xs) ++ drop (8 * m) l
+all-codes m xs l few h = laid-all m xs (λ (x : Item). x .«has_main_maximum») codeFields blank l few h

@@ -1,0 +1,4 @@
+pub mod Again
+pub mod Columns
+pub mod Laid
+pub mod Stored
