@@ -3,3 +3,4 @@ pub mod LineLaws
 pub mod AcrossLaws
 pub mod LineCalled
 pub mod Stretched
+pub mod ItemMarks

@@ -1,4 +1,4 @@
--- The container's cross axis in numbers: how they are read, and what a call checks of them. Assumes nothing.
+-- The cross axis in numbers: how the container's are read, and what a call checks of them and of a line's items. Assumes nothing.
 use mathlib.Core.Bool.{Bool, cond}
 use mathlib.Core.List.{List, [], _∷_, _++_}
 use Prim.Native.Nat.{ℕ}
@@ -6,12 +6,16 @@ use lib.Dec.{eqb}
 use lib.Ieee.{Float}
 use Rattle.refusal.specs.Domain.{Number, float, code}
 use Rattle.refusal.specs.Optional.{optional}
-use Rattle.refusal.specs.declared.Kind.the-variants.{Size}
+use Rattle.refusal.specs.Lists.{floatAt, codeAt, besideAt}
+use Rattle.refusal.specs.declared.Kind.the-variants.{Size, Margin}
 use Rattle.breaking.specs.declared.Bound.{Bound}
 use Rattle.breaking.specs.declared.Bound.the-variants.{Absent, Given}
 use Rattle.crossaxis.specs.declared.container.Cross.{Cross}
 use Rattle.crossaxis.specs.declared.numbers.CrossNumbers.{CrossNumbers}
 use Rattle.crossaxis.specs.Container.{wrapOf}
+use Rattle.crossaxis.specs.CrossSize.{Items}
+
+-- ---- the container
 
 -- a number under code 1; under any other it is not taken
 abbrev pub boundOf : ℕ → Float → Bound
@@ -26,3 +30,13 @@ boundNumbers given x = code 1 given ∷ optional (eqb given 1) (float Size x)
 
 abbrev pub crossNumbers : CrossNumbers → List Number
 crossNumbers c = boundNumbers (c .definite) (c .inner) ++ (boundNumbers (c .floored) (c .minimum) ++ (boundNumbers (c .capped) (c .maximum) ++ (float Size (c .gap) ∷ code 4 (c .wrap) ∷ [])))
+
+-- ---- the items of a line
+
+-- item i: measured size, minimum, padding plus border, the maximum where there is one, and the margins that are not auto
+abbrev pub crossNumbersAt : Items → ℕ → List Number
+crossNumbersAt ls i = floatAt Size (ls .measured) i ++ (floatAt Size (ls .minimum) i ++ (floatAt Size (ls .edges) i ++ (besideAt Size 1 (ls .maximum) (ls .capped) i ++ (besideAt Margin 0 (ls .start) (ls .auto-start) i ++ besideAt Margin 0 (ls .end) (ls .auto-end) i))))
+
+-- and the codes of `align-self`, and of an auto cross size
+abbrev pub acrossNumbersAt : Items → List ℕ → List ℕ → ℕ → List Number
+acrossNumbersAt ls alignment auto-size i = crossNumbersAt ls i ++ (codeAt 10 alignment i ++ codeAt 1 auto-size i)
