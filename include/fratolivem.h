@@ -124,6 +124,115 @@ static inline fratolivem_answer fratolivem_balanced(uint32_t limit_kind, float l
                                      cur_len);
 }
 
+/* ---- The whole pass: lines, flexing, main axis and cross axis of one container ---- */
+
+enum { FRATOLIVEM_ROW = 0, FRATOLIVEM_ROW_REVERSE = 1, FRATOLIVEM_COLUMN = 2, FRATOLIVEM_COLUMN_REVERSE = 3 };
+
+/* BALANCE is wrap with balanced breaking. */
+enum {
+    FRATOLIVEM_NOWRAP = 0,
+    FRATOLIVEM_WRAP = 1,
+    FRATOLIVEM_WRAP_REVERSE = 2,
+    FRATOLIVEM_BALANCE = 3,
+    FRATOLIVEM_BALANCE_REVERSE = 4
+};
+
+/* justify-content, align-content and align-self. A position plus SAFE is the safe one. The last three are no align-self. */
+enum {
+    FRATOLIVEM_START = 0,
+    FRATOLIVEM_END = 1,
+    FRATOLIVEM_FLEX_START = 2,
+    FRATOLIVEM_FLEX_END = 3,
+    FRATOLIVEM_CENTER = 4,
+    FRATOLIVEM_SAFE = 5,
+    FRATOLIVEM_STRETCH = 10,
+    FRATOLIVEM_SPACE_BETWEEN = 11,
+    FRATOLIVEM_SPACE_AROUND = 12,
+    FRATOLIVEM_SPACE_EVENLY = 13
+};
+
+/* A container by value. A number beside a flag `has_..` of 0 is absent and not read. */
+typedef struct {
+    float inner_main;
+    float gap_main;
+    uint32_t limit_kind; /* and the limit that lines break against, of fratolivem_break_limit; a NOWRAP container is one line whatever it is */
+    float limit;
+    uint32_t minimum_lines; /* of balanced breaking; held to 1..n, never refused */
+    uint32_t direction;
+    uint32_t wrap;
+    uint32_t justify_content;
+    uint32_t align_content;
+    float inner_cross;
+    uint32_t has_inner_cross;
+    float minimum_cross; /* bounds on the inner cross size */
+    uint32_t has_minimum_cross;
+    float maximum_cross;
+    uint32_t has_maximum_cross;
+    float gap_cross;
+} fratolivem_container;
+
+/* An item as the host measured it. Main and cross are the container's axes, so a column's main sizes are heights. Edges are padding plus border.
+ * A host that follows CSS hands over a base of at least the edges. A margin beside an auto flag of 1 is auto and not read. */
+typedef struct {
+    float main_base; /* flex base size */
+    float main_minimum;
+    float main_maximum;
+    float main_edges;
+    float grow;
+    float shrink;
+    float main_start; /* margins */
+    float main_end;
+    float cross_measured;
+    float cross_minimum;
+    float cross_maximum;
+    float cross_edges;
+    float cross_start;
+    float cross_end;
+    uint32_t has_main_maximum;
+    uint32_t auto_main_start;
+    uint32_t auto_main_end;
+    uint32_t has_cross_maximum;
+    uint32_t auto_cross_start;
+    uint32_t auto_cross_end;
+    uint32_t align_self;
+    uint32_t auto_cross_size; /* 1: the cross size is auto, so the item may be stretched */
+} fratolivem_item;
+
+typedef struct {
+    uint32_t number;
+    uint32_t where;
+    uint32_t place;
+    uint32_t lines;
+    uint32_t rounds;   /* of flexing, in all lines together */
+    float inner_cross; /* the container's inner cross size, found from its lines where none was given; 0.0 on refusal */
+} fratolivem_passed;
+
+/* The lists of `placed`, each of n cells, one after another: item i's main size is placed[FRATOLIVEM_MAIN_SIZE * n + i]. An offset is the step
+ * before an item, walking its line from the physical start (from the last item in a reversed direction); margins are used margins. */
+enum {
+    FRATOLIVEM_MAIN_SIZE = 0,
+    FRATOLIVEM_MAIN_OFFSET = 1,
+    FRATOLIVEM_MAIN_START = 2,
+    FRATOLIVEM_MAIN_END = 3,
+    FRATOLIVEM_CROSS_SIZE = 4,
+    FRATOLIVEM_CROSS_OFFSET = 5,
+    FRATOLIVEM_CROSS_START = 6,
+    FRATOLIVEM_CROSS_END = 7,
+    FRATOLIVEM_PLACED_LISTS = 8
+};
+
+/* The lists of `lines`, each of n cells: line j's cross size is lines[FRATOLIVEM_LINE_SIZE * n + j]. */
+enum { FRATOLIVEM_LINE_SIZE = 0, FRATOLIVEM_LINE_OFFSET = 1, FRATOLIVEM_LINE_LISTS = 2 };
+
+/* Breaks, flexes and places n items. Room: 8n cells of placed and 2n of lines; n counts, rounds and free, by line: item counts, rounds of
+ * flexing, and free space before flexing in whole sixty-fourths, negative where the line is overfull. Cells by line are 0 past the last line.
+ * BALANCE and BALANCE_REVERSE also ask for n*n + 3n cells of work and 3n of sums (fratolivem_work_cells, fratolivem_sum_cells), which are 0
+ * after acceptance; else these two may be NULL and are not touched. All other cells are unchanged. It takes some 200 KB of stack. */
+fratolivem_passed fratolivem_pass(fratolivem_container container, const fratolivem_item *items, size_t n, float *placed,
+                                  size_t placed_len, float *lines, size_t lines_len, uint32_t *counts, size_t counts_len,
+                                  uint32_t *rounds, size_t rounds_len, int32_t *free, size_t free_len, uint32_t *work,
+                                  size_t work_len, double *sums, size_t sums_len);
+
 #ifdef __cplusplus
 }
 #endif

@@ -124,5 +124,141 @@ private:
     std::vector<double> sums_;
 };
 
+// ---- the whole pass
+
+// A container and an item, absent numbers and auto margins as none. The defaults are CSS's: a row that does not wrap, items that do not grow.
+struct container : fratolivem_container {
+    container(float inner_main_px, float gap_main_px, space limit_px) : fratolivem_container() {
+        inner_main = inner_main_px;
+        gap_main = gap_main_px;
+        limit_kind = limit_px.kind;
+        limit = limit_px.pixels;
+        minimum_lines = 1;
+        justify_content = FRATOLIVEM_FLEX_START;
+        align_content = FRATOLIVEM_STRETCH;
+    }
+    container &across(bound inner, float gap, bound minimum = {}, bound maximum = {}) {
+        inner_cross = inner.pixels, has_inner_cross = inner.given, gap_cross = gap;
+        minimum_cross = minimum.pixels, has_minimum_cross = minimum.given;
+        maximum_cross = maximum.pixels, has_maximum_cross = maximum.given;
+        return *this;
+    }
+};
+
+struct item : fratolivem_item {
+    item(float base, float measured) : fratolivem_item() {
+        main_base = base;
+        cross_measured = measured;
+        shrink = 1.0f;
+        align_self = FRATOLIVEM_STRETCH;
+        auto_cross_size = 1;
+    }
+    item &maximum(float px) {
+        main_maximum = px, has_main_maximum = 1;
+        return *this;
+    }
+};
+static_assert(sizeof(item) == sizeof(fratolivem_item), "a list of items is lent as it is");
+
+struct placed_item {
+    float main_size, main_offset, main_start, main_end, cross_size, cross_offset, cross_start, cross_end;
+};
+
+struct placed_line {
+    std::uint32_t count;
+    std::int32_t free; // before flexing, in sixty-fourths
+    std::uint32_t rounds;
+    float cross_size, cross_offset;
+};
+
+// What an accepted pass answers.
+struct frame {
+    std::vector<placed_item> items;
+    std::vector<placed_line> lines;
+    float inner_cross = 0.0f;
+    std::uint32_t rounds = 0;
+};
+
+struct [[nodiscard]] passed : fratolivem_passed {
+    explicit operator bool() const { return number == FRATOLIVEM_ACCEPTED; }
+    refusal why() const { return static_cast<refusal>(number); }
+    std::string text() const { return refusal_text(why(), where, place); }
+};
+
+// A panel of a wall: lays items out, owns the scratch space that this takes, and keeps its last good frame. A refusal leaves that frame as it
+// was, so that a panel whose numbers go wrong shows what it showed before. One for each thread.
+class panel {
+public:
+    passed lay(const fratolivem_container &c, span<const fratolivem_item> items) {
+        const std::size_t n = items.size(), m = n > FRATOLIVEM_MOST_ITEMS ? 0 : n;
+        const bool balances = c.wrap == FRATOLIVEM_BALANCE || c.wrap == FRATOLIVEM_BALANCE_REVERSE;
+        grow(placed_, FRATOLIVEM_PLACED_LISTS * m);
+        grow(lines_, FRATOLIVEM_LINE_LISTS * m);
+        grow(counts_, m), grow(rounds_, m), grow(free_, m);
+        if (balances) grow(work_, fratolivem_work_cells(n)), grow(sums_, fratolivem_sum_cells(n));
+        const passed p{fratolivem_pass(c, items.data(), n, placed_.data(), placed_.size(), lines_.data(), lines_.size(),
+                                       counts_.data(), counts_.size(), rounds_.data(), rounds_.size(), free_.data(),
+                                       free_.size(), work_.data(), work_.size(), sums_.data(), sums_.size())};
+        if (p) keep(p, n);
+        return p;
+    }
+    // The frame of the last accepted call; empty before the first.
+    const frame &last() const { return frame_; }
+
+private:
+    template <class T>
+    static void grow(std::vector<T> &cells, std::size_t n) {
+        if (cells.size() < n) cells.resize(n);
+    }
+    void keep(const passed &p, std::size_t n) {
+        const auto of = [&](std::size_t list, std::size_t i) { return placed_[list * n + i]; };
+        frame_.items.resize(n);
+        for (std::size_t i = 0; i < n; i++)
+            frame_.items[i] = {of(0, i), of(1, i), of(2, i), of(3, i), of(4, i), of(5, i), of(6, i), of(7, i)};
+        frame_.lines.resize(p.lines);
+        for (std::size_t j = 0; j < p.lines; j++)
+            frame_.lines[j] = {counts_[j], free_[j], rounds_[j], lines_[j], lines_[n + j]};
+        frame_.inner_cross = p.inner_cross;
+        frame_.rounds = p.rounds;
+    }
+
+    frame frame_;
+    std::vector<float> placed_, lines_;
+    std::vector<std::uint32_t> counts_, rounds_, work_;
+    std::vector<std::int32_t> free_;
+    std::vector<double> sums_;
+};
+
+// An item's border box in its container, main and cross counted from the container's inner start edges.
+struct box {
+    float main, cross, main_size, cross_size;
+};
+
+// The boxes of a frame: adds up the steps, the sizes and the margins, from the last line where wrapping is reversed, and from a line's last item
+// where the direction is. `c` is the container that the frame was laid out for.
+inline std::vector<box> boxes(const fratolivem_container &c, const frame &f) {
+    const bool items_reversed = c.direction == FRATOLIVEM_ROW_REVERSE || c.direction == FRATOLIVEM_COLUMN_REVERSE;
+    const bool lines_reversed = c.wrap == FRATOLIVEM_WRAP_REVERSE || c.wrap == FRATOLIVEM_BALANCE_REVERSE;
+    std::vector<std::size_t> first(f.lines.size());
+    for (std::size_t j = 1; j < f.lines.size(); j++) first[j] = first[j - 1] + f.lines[j - 1].count;
+    std::vector<box> out(f.items.size());
+    float cross = 0.0f;
+    for (std::size_t step = 0; step < f.lines.size(); step++) {
+        const std::size_t j = lines_reversed ? f.lines.size() - 1 - step : step;
+        const placed_line &line = f.lines[j];
+        cross += line.cross_offset;
+        float main = 0.0f;
+        for (std::size_t k = 0; k < line.count; k++) {
+            const std::size_t i = first[j] + (items_reversed ? line.count - 1 - k : k);
+            const placed_item &it = f.items[i];
+            main += it.main_offset + it.main_start;
+            out[i] = {main, cross + (it.cross_offset + it.cross_start), it.main_size, it.cross_size};
+            main += it.main_size + it.main_end;
+        }
+        cross += line.cross_size;
+    }
+    return out;
+}
+
 } // namespace fratolivem
 #endif
