@@ -143,7 +143,7 @@ void greedy(const std::vector<List> &lists, int repetitions) {
     for (const List &list : lists) items.push_back(judge_items(list.sizes.data(), n));
     std::size_t differ = 0;
     auto rust = [&](std::size_t i) {
-        const judge_container c{1, 1, 1, lists[i].kind, lists[i].limit, 0, 0.0f, 0, 0.0f, gap, 1};
+        const judge_breaking c{1, 1, 1, lists[i].kind, lists[i].limit, 0, 0.0f, 0, 0.0f, gap, 1};
         return judge_lines(0, &c, items[i], room.other.data());
     };
     auto here = [&](std::size_t i) {

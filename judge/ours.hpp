@@ -1,0 +1,117 @@
+// Our answer to a case: the library's where the call is exported, else the model's. A refusal is told apart.
+#ifndef OURS_HPP
+#define OURS_HPP
+
+#include "../include/fratolivem.hpp"
+#include "case.hpp"
+
+namespace ours {
+
+struct Told {
+    uint32_t number = 0; // the refusal
+    Answer answer;
+};
+
+inline Told broken(const Case &c) {
+    static fratolivem::balancer balance;
+    const Breaking &b = c.breaking;
+    const auto limit = fratolivem_break_limit(b.known_is_definite, b.main_is_definite, b.is_row, b.available_kind, b.available, b.has_minimum,
+                                              b.minimum, b.has_maximum, b.maximum);
+    if (limit.number) return {limit.number, {}};
+    std::vector<uint32_t> counts(c.list.size());
+    const fratolivem::space space{limit.kind, limit.limit};
+    const auto a = c.stage == Stage::balanced ? balance(space, b.gap, b.line_count, c.list, counts)
+                                              : fratolivem::greedy(space, b.gap, c.list, counts);
+    counts.resize(a.lines);
+    return {a.number, {{}, counts}};
+}
+
+inline Told flexed(const Case &c) {
+    model::FlexLists lists;
+    for (const model::Item &it : c.items) lists.add(it.main());
+    const auto a = model::flex_line(c.container.inner_main, c.container.gap_main, lists, lists.n());
+    return {a.refusal.number, {a.targets, {}}};
+}
+
+inline void append(std::vector<float> &all, const std::vector<float> &list) { all.insert(all.end(), list.begin(), list.end()); }
+
+inline Told placed_main(const Case &c) {
+    model::MainLists l{c.list, {}, {}, {}, {}};
+    for (const model::Item &it : c.items) {
+        l.start.push_back(it.main_start), l.end.push_back(it.main_end);
+        l.auto_start.push_back(it.auto_main_start), l.auto_end.push_back(it.auto_main_end);
+    }
+    const model::Container &k = c.container;
+    const auto r = model::check_main(k.inner_main, k.gap_main, k.justify_content, k.reversed(), l, true);
+    if (r.number) return {r.number, {}};
+    const auto p = model::place_main(k.inner_main, k.gap_main, k.justify_content, k.reversed(), l);
+    Told t;
+    append(t.answer.numbers, p.offsets), append(t.answer.numbers, p.start), append(t.answer.numbers, p.end);
+    return t;
+}
+
+inline model::CrossLists cross_lists(const Case &c) {
+    model::CrossLists l;
+    for (const model::Item &it : c.items) l.add(it.cross());
+    return l;
+}
+
+inline Told sized(const Case &c) {
+    const model::CrossLists l = cross_lists(c);
+    const auto r = model::check_cross_size(c.container.cross(), l);
+    if (r.number) return {r.number, {}};
+    return {0, {{model::cross_size(c.container.cross(), l, 0, l.n())}, {}}};
+}
+
+inline Told placed_lines(const Case &c) {
+    const auto r = model::check_lines(c.container.cross(), c.container.align_content, c.list, true);
+    if (r.number) return {r.number, {}};
+    const auto p = model::place_lines(c.container.cross(), c.container.align_content, c.list);
+    Told t{0, {{p.inner}, {}}};
+    append(t.answer.numbers, p.sizes), append(t.answer.numbers, p.offsets);
+    return t;
+}
+
+inline Told placed_across(const Case &c) {
+    const model::CrossLists l = cross_lists(c);
+    const auto r = model::check_across(c.list[0], c.container.wrap, 4, l, true);
+    if (r.number) return {r.number, {}};
+    std::vector<float> size, start, end, offset;
+    for (std::size_t i = 0; i < l.n(); i++) {
+        const auto p = model::place_item(c.list[0], c.container.cross().reversed(), l.at(i));
+        size.push_back(p.size), start.push_back(p.start), end.push_back(p.end), offset.push_back(p.offset);
+    }
+    Told t;
+    for (const auto *list : {&size, &start, &end, &offset}) append(t.answer.numbers, *list);
+    return t;
+}
+
+// The numbers of the pass in the judge's order: inner cross size, line sizes and offsets, then the eight lists by item.
+inline Told passed(const Case &c) {
+    const std::size_t n = c.items.size();
+    const auto p = model::pass(c.container, c.items, model::PassRoom::named(n));
+    if (p.refusal.number) return {p.refusal.number, {}};
+    Told t{0, {{p.inner_cross}, {}}};
+    const auto lines = p.lines.begin();
+    t.answer.numbers.insert(t.answer.numbers.end(), lines, lines + long(p.lines_made));
+    t.answer.numbers.insert(t.answer.numbers.end(), lines + long(n), lines + long(n + p.lines_made));
+    append(t.answer.numbers, p.placed);
+    t.answer.counts.assign(p.counts.begin(), p.counts.begin() + long(p.lines_made));
+    return t;
+}
+
+inline Told answer(const Case &c) {
+    switch (c.stage) {
+    case Stage::greedy:
+    case Stage::balanced: return broken(c);
+    case Stage::flex: return flexed(c);
+    case Stage::main: return placed_main(c);
+    case Stage::size: return sized(c);
+    case Stage::lines: return placed_lines(c);
+    case Stage::across: return placed_across(c);
+    default: return passed(c);
+    }
+}
+
+} // namespace ours
+#endif
