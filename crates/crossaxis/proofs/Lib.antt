@@ -1,6 +1,6 @@
 pub mod Largest
 pub mod LineLaws
 pub mod AcrossLaws
-pub mod LineCalled
+pub mod BoundMarks
 pub mod Stretched
 pub mod ItemMarks

@@ -3,4 +3,3 @@ pub mod CrossSize
 pub mod Lines
 pub mod CrossAxis
 pub mod Numbers
-pub mod LineCall

@@ -28,8 +28,17 @@ crossOf c = record { inner = boundOf (c .definite) (c .inner); minimum = boundOf
 abbrev pub boundNumbers : ℕ → Float → List Number
 boundNumbers given x = code 1 given ∷ optional (eqb given 1) (float Size x)
 
+-- the inner size, its bounds, and the rest
+abbrev pub boundsNumbers : CrossNumbers → List Number → List Number
+boundsNumbers c rest = boundNumbers (c .definite) (c .inner) ++ (boundNumbers (c .floored) (c .minimum) ++ (boundNumbers (c .capped) (c .maximum) ++ rest))
+
+-- what lines along the cross axis turn on
 abbrev pub crossNumbers : CrossNumbers → List Number
-crossNumbers c = boundNumbers (c .definite) (c .inner) ++ (boundNumbers (c .floored) (c .minimum) ++ (boundNumbers (c .capped) (c .maximum) ++ (float Size (c .gap) ∷ code 4 (c .wrap) ∷ [])))
+crossNumbers c = boundsNumbers c (float Size (c .gap) ∷ code 4 (c .wrap) ∷ [])
+
+-- what the size of one line turns on: no gap
+abbrev pub sizingNumbers : CrossNumbers → List Number
+sizingNumbers c = boundsNumbers c (code 4 (c .wrap) ∷ [])
 
 -- ---- the items of a line
 

@@ -5,4 +5,3 @@ pub mod lines; // lines.rt: lines stretched and placed along the cross axis
 pub mod cross_axis; // cross_axis.rt: the items of one line across it
 pub mod numbers; // numbers.rt: the container's cross axis in numbers, on any bits
 pub mod marks; // marks.rt: what is checked of a line's items
-pub mod line_call; // line_call.rt: the call for a container's lines

@@ -1,7 +1,9 @@
 // The container's cross axis in numbers, on any bits.
 ghost use mathlib.Core.Path.{_≡_};
+ghost use mathlib.Core.List.{List};
+ghost use Rattle.refusal.specs.Domain.{Number};
 ghost use Rattle.refusal.specs.Marks.{leastOf};
-ghost use Rattle.crossaxis.specs.Numbers.{boundOf, crossOf, boundNumbers, crossNumbers};
+ghost use Rattle.crossaxis.specs.Numbers.{boundOf, crossOf, boundNumbers, boundsNumbers, crossNumbers, sizingNumbers};
 use crate::container;
 use crate::container::Cross;
 use breaking::Bound;
@@ -53,14 +55,31 @@ fn mark_bound(given: u32, x: f32) -> Mark
     )
 }
 
-pub fn mark_cross(c: CrossNumbers) -> Mark
-    ensures { λ r. ⌜ r .0 ≡ leastOf (crossNumbers c) 0 ⌝ }
+// The three bounds, before whatever else is taken.
+fn mark_bounds(c: CrossNumbers, plain: Mark) -> Mark
+    ensures { λ r. ⌜ ((rest : List Number) → plain .0 ≡ leastOf rest 0 → r .0 ≡ leastOf (boundsNumbers c rest) 0) ⌝ }
 {
-    let plain = least(mark_float(Kind::Size, c.gap, 0), mark_code(4, c.wrap, 0));
     let maximum = mark_bound(c.capped, c.maximum);
     let minimum = mark_bound(c.floored, c.minimum);
     least(
         mark_bound(c.definite, c.inner),
         least(minimum, least(maximum, plain)),
     )
+}
+
+// What lines along the cross axis turn on.
+pub fn mark_cross(c: CrossNumbers) -> Mark
+    ensures { λ r. ⌜ r .0 ≡ leastOf (crossNumbers c) 0 ⌝ }
+{
+    mark_bounds(
+        c,
+        least(mark_float(Kind::Size, c.gap, 0), mark_code(4, c.wrap, 0)),
+    )
+}
+
+// What the size of one line turns on, which knows no gap.
+pub fn mark_sizing(c: CrossNumbers) -> Mark
+    ensures { λ r. ⌜ r .0 ≡ leastOf (sizingNumbers c) 0 ⌝ }
+{
+    mark_bounds(c, mark_code(4, c.wrap, 0))
 }

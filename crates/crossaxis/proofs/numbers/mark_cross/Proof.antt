@@ -1,7 +1,10 @@
--- `crossaxis::numbers::mark_cross` meets its contract: the least mark of its parts. Assumes nothing.
-use mathlib.Core.Path.{ap, ap₂, _∙_}
+-- `crossaxis::numbers::mark_cross` meets its contract: the gap and the code of wrapping after the bounds. Assumes nothing.
+use mathlib.Core.Path.{ap₂, _∙_}
+use mathlib.Core.List.{[], _∷_}
 use Prim.Native.Nat.{min}
-use Rattle.crossaxis.proofs.LineCalled.{cross-marks}
+use Rattle.refusal.specs.declared.Kind.the-variants.{Size}
+use Rattle.refusal.specs.Domain.{float, code}
+use Rattle.refusal.proofs.Marked.{container-two}
 use borrow.Author.Needs.{needs}
 use Rattle.crossaxis.proofs.numbers.mark_cross.Statement.{statement}
 use Rattle.crossaxis.proofs.numbers.mark_cross.Tie as tie
@@ -15,38 +18,15 @@ mark-code-requires c κs = search needs
 least-requires : tie.Need-least-requires
 least-requires c κs = search needs
 
-mark-bound-requires : tie.Need-mark-bound-requires
-mark-bound-requires c κs = search needs
-
-mark-bound-requires-2 : tie.Need-mark-bound-requires-2
-mark-bound-requires-2 c κs = search needs
-
-mark-bound-requires-3 : tie.Need-mark-bound-requires-3
-mark-bound-requires-3 c κs = search needs
-
-least-requires-2 : tie.Need-least-requires-2
-least-requires-2 c κs = search needs
-
-least-requires-3 : tie.Need-least-requires-3
-least-requires-3 c κs = search needs
-
-least-requires-4 : tie.Need-least-requires-4
-least-requires-4 c κs = search needs
+mark-bounds-requires : tie.Need-mark-bounds-requires
+mark-bounds-requires c κs = search needs
 
 returns : tie.Need-returns
-returns c = c .least4 .ensures ∙ ap (min (c .before .before .before .mark-bound3 .result .0)) (c .before .least3 .ensures ∙ ap (min (c .before .before .before .before .mark-bound2 .result .0)) (c .before .before .least2 .ensures ∙ ap (min (c .before .before .before .before .before .mark-bound .result .0)) (c .before .before .before .before .before .before .least .ensures))) ∙ cross-marks (c .before .before .before .before .before .before .before .before .before .args .c) (c .before .before .before .mark-bound3 .ensures) (c .before .before .before .before .mark-bound2 .ensures) (c .before .before .before .before .before .mark-bound .ensures) (c .before .before .before .before .before .before .before .before .mark-float .ensures) (c .before .before .before .before .before .before .before .mark-code .ensures)
+returns c =
+    let k = c .before .before .before .before .args .c in
+    c .mark-bounds .ensures (float Size (k .gap) ∷ code 4 (k .wrap) ∷ []) (c .before .least .ensures ∙ ap₂ min (c .before .before .before .mark-float .ensures) (c .before .before .mark-code .ensures) ∙ container-two (float Size (k .gap)) (code 4 (k .wrap)))
 
 pub mark-cross-spec : {M : Type 1} → statement M
 mark-cross-spec =
     tie.close
-    (tie.spec
-    mark-float-requires
-    mark-code-requires
-    least-requires
-    mark-bound-requires
-    mark-bound-requires-2
-    mark-bound-requires-3
-    least-requires-2
-    least-requires-3
-    least-requires-4
-    returns)
+    (tie.spec mark-float-requires mark-code-requires least-requires mark-bounds-requires returns)

@@ -1,12 +1,12 @@
--- `crossaxis::line_call::check_lines_numbers` meets its contract: the least mark of its parts. Assumes nothing.
+-- `crosscalls::line_call::check_lines_numbers` meets its contract: the least mark of its parts. Assumes nothing.
 use mathlib.Core.Path.{ap, _∙_}
 use Prim.Native.Nat.{ℕ, min}
 use denote.Ref.{now}
 use Rattle.refusal.specs.Marks.{judged}
-use Rattle.crossaxis.proofs.LineCalled.{lines-checked}
+use Rattle.crosscalls.proofs.LineCalled.{lines-checked}
 use borrow.Author.Needs.{needs}
-use Rattle.crossaxis.proofs.line_call.check_lines_numbers.Statement.{statement}
-use Rattle.crossaxis.proofs.line_call.check_lines_numbers.Tie as tie
+use Rattle.crosscalls.proofs.line_call.check_lines_numbers.Statement.{statement}
+use Rattle.crosscalls.proofs.line_call.check_lines_numbers.Tie as tie
 
 mark-code-requires : tie.Need-mark-code-requires
 mark-code-requires c κs = search needs

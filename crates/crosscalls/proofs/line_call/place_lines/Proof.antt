@@ -1,10 +1,10 @@
--- `crossaxis::line_call::place_lines` meets its contract: the checks refuse, or the lines are placed. Assumes nothing.
+-- `crosscalls::line_call::place_lines` meets its contract: the checks refuse, or the lines are placed. Assumes nothing.
 use mathlib.Core.Path.{_≡_, sym, _∙_}
 use denote.Ref.{now}
-use Rattle.crossaxis.proofs.LineCalled.{lines-room, lines-shape-refused, lines-numbers-refused, lines-placed}
+use Rattle.crosscalls.proofs.LineCalled.{lines-room, lines-shape-refused, lines-numbers-refused, lines-placed}
 use borrow.Author.Needs.{needs}
-use Rattle.crossaxis.proofs.line_call.place_lines.Statement.{statement}
-use Rattle.crossaxis.proofs.line_call.place_lines.Tie as tie
+use Rattle.crosscalls.proofs.line_call.place_lines.Statement.{statement}
+use Rattle.crosscalls.proofs.line_call.place_lines.Tie as tie
 
 check-lines-shape-requires : tie.Need-check-lines-shape-requires
 check-lines-shape-requires c κs = search needs

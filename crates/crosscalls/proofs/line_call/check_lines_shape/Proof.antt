@@ -1,7 +1,7 @@
--- `crossaxis::line_call::check_lines_shape` meets its contract: list by list. Assumes nothing.
+-- `crosscalls::line_call::check_lines_shape` meets its contract: list by list. Assumes nothing.
 use borrow.Author.Needs.{needs}
-use Rattle.crossaxis.proofs.line_call.check_lines_shape.Statement.{statement}
-use Rattle.crossaxis.proofs.line_call.check_lines_shape.Tie as tie
+use Rattle.crosscalls.proofs.line_call.check_lines_shape.Statement.{statement}
+use Rattle.crosscalls.proofs.line_call.check_lines_shape.Tie as tie
 
 longer-requires : tie.Need-longer-requires
 longer-requires c κs = search needs

@@ -2,39 +2,26 @@
 use mathlib.Core.Path.{_≡_, refl, sym, ap, ap₂, _∙_, subst}
 use mathlib.Core.List.{List, [], _∷_, _++_}
 use Prim.Native.Nat.{ℕ, _+_, _≤_, min}
-use lib.Dec.{eqb}
 use lib.ListN.{length}
 use lib.Ieee.{Float}
-use Rattle.refusal.specs.declared.Kind.the-variants.{Size, Worked}
+use Rattle.refusal.specs.declared.Kind.the-variants.{Worked}
 use Rattle.refusal.specs.declared.Refusal.{Refusal}
 use Rattle.refusal.specs.declared.Verdict.{Verdict}
 use Rattle.refusal.specs.declared.Verdict.the-variants.{Passed}
 use Rattle.refusal.specs.declared.Verdict.the-variants as verdict
-use Rattle.refusal.specs.Domain.{float, code, checked, then}
+use Rattle.refusal.specs.Domain.{code, checked, then}
 use Rattle.refusal.specs.Marks.{mark, leastOf, leastUpTo, judged}
-use Rattle.refusal.proofs.Checks.{least-append}
 use Rattle.align.specs.declared.ContentAlignment.{ContentAlignment}
 use Rattle.crossaxis.specs.declared.container.Cross.{Cross}
 use Rattle.crossaxis.specs.declared.numbers.CrossNumbers.{CrossNumbers}
-use Rattle.crossaxis.specs.declared.line_call.LinesAnswer.the-variants.{Placed, Refused}
+use Rattle.crosscalls.specs.declared.line_call.LinesAnswer.the-variants.{Placed, Refused}
 use Rattle.align.specs.Align.{contentOf}
 use Rattle.crossaxis.specs.Lines.{Aligned}
 use Rattle.refusal.specs.Shapes.{shapeOf}
 use Rattle.refusal.specs.Lists.{floatAt}
-use Rattle.crossaxis.specs.Numbers.{crossOf, boundNumbers, crossNumbers}
-use Rattle.crossaxis.specs.LineCall.{linesInput, linesVerdict, LinesResult, result, linesInto, linesCall}
-use Rattle.refusal.proofs.Marked.{container-two, judged-is, shaped}
-
--- the marks of the three bounds, and of the gap and the wrap code
-pub cross-marks : (c : CrossNumbers) {a b d g w : ℕ} → a ≡ leastOf (boundNumbers (c .definite) (c .inner)) 0 → b ≡ leastOf (boundNumbers (c .floored) (c .minimum)) 0 → d ≡ leastOf (boundNumbers (c .capped) (c .maximum)) 0
-    → g ≡ mark (float Size (c .gap)) 0 → w ≡ mark (code 4 (c .wrap)) 0 → min a (min b (min d (min g w))) ≡ leastOf (crossNumbers c) 0
-cross-marks c p q r s t =
-    let plain = float Size (c .gap) ∷ code 4 (c .wrap) ∷ [] in
-    let x = boundNumbers (c .definite) (c .inner) in
-    let y = boundNumbers (c .floored) (c .minimum) in
-    let z = boundNumbers (c .capped) (c .maximum) in
-    ap₂ min p (ap₂ min q (ap₂ min r (ap₂ min s t ∙ container-two (float Size (c .gap)) (code 4 (c .wrap))) ∙ sym (least-append z plain 0)) ∙ sym (least-append y (z ++ plain) 0))
-    ∙ sym (least-append x (y ++ (z ++ plain)) 0)
+use Rattle.crossaxis.specs.Numbers.{crossOf, crossNumbers}
+use Rattle.crosscalls.specs.LineCall.{linesInput, linesVerdict, LinesResult, result, linesInto, linesCall}
+use Rattle.refusal.proofs.Marked.{judged-is, shaped}
 
 module _ (c : CrossNumbers) (alignment : ℕ) (lines : List Float) where
   pub lines-checked : {a k w : ℕ} → length lines ≤ 1024 → a ≡ mark (code 13 alignment) 0 → k ≡ leastOf (crossNumbers c) 0 → w ≡ leastUpTo (λ i. leastOf (floatAt Worked lines i) (i + 1)) (length lines)

@@ -1,0 +1,2 @@
+pub mod SizeCalled
+pub mod LineCalled

@@ -1,0 +1,2 @@
+pub mod SizeCall
+pub mod LineCall
