@@ -58,7 +58,7 @@ two a b p q = le-trans {m = 16777216} (le-trans {m = natAbs a + natAbs b} (abs-a
     sum : (a b : ℕ) → a ≤ 8388608 → b ≤ 8388608 → a + b ≤ 16777216
     sum a b p q = omega arith
 
-outer-at : (it : Item) → Measured it → natAbs (outerUnits it) ≤ 16777216 → At 64 (outer it (hypothetical it)) (outerUnits it)
+pub outer-at : (it : Item) → Measured it → natAbs (outerUnits it) ≤ 16777216 → At 64 (outer it (hypothetical it)) (outerUnits it)
 outer-at it m h =
     add-at binary32 6 (lit≤ tt) (at (hypothetical it) (first-length it m))
     (add-at binary32 6 (lit≤ tt) (at (it .start) (m .start .length)) (at (it .end) (m .end .length)) (two (sixtyFourths (it .start)) (sixtyFourths (it .end)) (m .start .small) (m .end .small)))

@@ -1,0 +1,4 @@
+pub mod Cells
+pub mod Modes
+pub mod Division
+pub mod Given

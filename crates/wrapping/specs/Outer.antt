@@ -1,0 +1,9 @@
+-- What the whole pass breaks: "outer main size .., hypothetical where the call flexes" (document 01, "Domain and refusal numbers"). Assumes nothing.
+use mathlib.Core.List.{List, map}
+use lib.Ieee.{Float}
+use Rattle.flexing.specs.declared.Item.{Item}
+use Rattle.flexing.specs.Flex.{outer, hypothetical}
+
+-- the items' hypothetical outer main sizes, in pixels
+abbrev pub outerSizes : List Item → List Float
+outerSizes items = map (λ it. outer it (hypothetical it)) items

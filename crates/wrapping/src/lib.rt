@@ -1,0 +1,122 @@
+// Breaking as the whole pass does it, by the container's wrap mode (document 01, "Breaking"). The parts work on what the pass's checks have
+// accepted: none is an entry point.
+ghost use mathlib.Core.Path.{_≡_};
+ghost use mathlib.Core.List.{_++_};
+ghost use Prim.Native.Nat.{_≤_};
+ghost use lib.ListN.{length, drop};
+ghost use lib.Ieee.{binary64, ofBits};
+ghost use Rattle.breaking.specs.Steps.{Breakable, Listed, filled};
+ghost use Rattle.flexing.specs.Cells.{itemsIn};
+ghost use Rattle.wrapping.specs.Wrapping.{oneLine, lent, Room, Wrapped};
+ghost use Rattle.wrapping.specs.Outer.{outerSizes};
+ghost use Rattle.wrapping.specs.declared.Mode.the-variants.{Balanced};
+use balance::divide_within;
+use breaking::AvailableSpace;
+use breaking::clear_counts;
+use breaking::greedy_checked;
+use flexing::sizes::hypothetical_size;
+use flexing::sizes::outer_size;
+use flexing::table::pick;
+
+// Whether a container's items make one line (nowrap), greedy lines (wrap) or balanced lines (balance).
+pub enum Mode {
+    Single,
+    Greedy,
+    Balanced,
+}
+
+// The sizes that breaking takes: the hypothetical outer main sizes of the table's first n items.
+pub fn outer_sizes(table: &[f32; 8192], n: usize, sizes: &mut [f32])
+    requires { ⌜ (n ≤ 1024) × (n ≤ length (now sizes)) ⌝ }
+    ensures { λ _. ⌜ now (sizes .exit) ≡ outerSizes (itemsIn (now (table .entry)) 0 n) ++ drop n (now (sizes .entry)) ⌝ }
+{
+    let mut i = 0;
+    while i < n {
+        let it = pick(table, i);
+        sizes[i] = outer_size(it, hypothetical_size(it));
+        i += 1;
+    }
+}
+
+// One line of all items, whatever the limit; no items make no line.
+fn single_line(n: usize, counts: &mut [u32]) -> usize
+    requires { ⌜ (n ≤ 1024) × (n ≤ length (now counts)) ⌝ }
+    ensures { λ r. ⌜ Listed n (oneLine n) (now (counts .entry)) r (now (counts .exit)) ⌝ }
+{
+    if n == 0 {
+        return 0;
+    }
+    counts[0] = n as u32;
+    clear_counts(counts, 1, n);
+    1
+}
+
+fn clear_sums(sums: &mut [f64], from: usize, to: usize)
+    requires { ⌜ (from ≤ to) × (to ≤ length (now sums)) ⌝ }
+    ensures { λ _. ⌜ now (sums .exit) ≡ filled (ofBits binary64 0) from to (now (sums .entry)) ⌝ }
+{
+    let mut i = from;
+    while i < to {
+        sums[i] = 0.0;
+        i += 1;
+    }
+}
+
+// Five of the lists that balanced breaking works in are the frame's; those of the host stay n·n + 3n and 3n cells.
+fn balanced_lines(
+    limit: AvailableSpace,
+    gap: f32,
+    minimum: u32,
+    sizes: &[f32],
+    counts: &mut [u32],
+    work: &mut [u32],
+    sums: &mut [f64],
+) -> usize
+    requires { ⌜ Breakable limit gap (now sizes) × Room Balanced (length (now sizes)) (lent (now counts) (now work) (now sums)) ⌝ }
+    ensures { λ r. ⌜ Wrapped Balanced limit gap minimum (now (sizes .entry)) (lent (now (counts .entry)) (now (work .entry)) (now (sums .entry))) r (lent (now (counts .exit)) (now (work .exit)) (now (sums .exit))) ⌝ }
+{
+    let n = sizes.len();
+    let mut fit = [0u32; 1024];
+    let mut greedy = [0u32; 1024];
+    let mut reach = [0u32; 1024];
+    let mut prev = [0.0f64; 1024];
+    let mut cur = [0.0f64; 1024];
+    let lines = divide_within(
+        limit,
+        gap,
+        minimum,
+        sizes,
+        counts,
+        work,
+        &mut fit,
+        &mut greedy,
+        &mut reach,
+        sums,
+        &mut prev,
+        &mut cur,
+    );
+    clear_counts(work, n * n, n * n + 3 * n);
+    clear_sums(sums, n, 3 * n);
+    lines
+}
+
+// The lines of the sizes, by wrap mode.
+pub fn break_lines(
+    mode: Mode,
+    limit: AvailableSpace,
+    gap: f32,
+    minimum: u32,
+    sizes: &[f32],
+    counts: &mut [u32],
+    work: &mut [u32],
+    sums: &mut [f64],
+) -> usize
+    requires { ⌜ Breakable limit gap (now sizes) × Room mode (length (now sizes)) (lent (now counts) (now work) (now sums)) ⌝ }
+    ensures { λ r. ⌜ Wrapped mode limit gap minimum (now (sizes .entry)) (lent (now (counts .entry)) (now (work .entry)) (now (sums .entry))) r (lent (now (counts .exit)) (now (work .exit)) (now (sums .exit))) ⌝ }
+{
+    match mode {
+        Mode::Single => single_line(sizes.len(), counts),
+        Mode::Greedy => greedy_checked(limit, gap, sizes, counts),
+        Mode::Balanced => balanced_lines(limit, gap, minimum, sizes, counts, work, sums),
+    }
+}
