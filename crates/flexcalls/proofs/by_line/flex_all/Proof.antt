@@ -1,6 +1,6 @@
 -- All lines, and then the cells past the last one. Assumes nothing.
-use mathlib.Core.Path.{sym, subst}
-use Prim.Native.Nat.{ℕ, _≤_}
+use Prim.Native.Nat.{_≤_}
+use native.Mathlib.Omega.{arith}
 use lib.ListN.{length}
 use denote.Ref.{now}
 use Rattle.flexing.specs.Cells.{itemIn}
@@ -24,12 +24,12 @@ flex-each-requires c κs = search needs
 clear-free-requires : tie.Need-clear-free-requires
 clear-free-requires c κs =
     let s = c .before .before .before .before .before .before .before .before .before .before .before .before .before in
-    (within s, subst (λ (k : ℕ). s .args .n ≤ k) (sym (c .before .before .before .before .before .before .flex-each .ensures .free-past .long)) (s .pre .divided .free-room))
+    (omega (arith, within s), omega (arith, within s, c .before .before .before .before .before .before .flex-each .ensures .free-past .long, s .pre .divided .free-room))
 
 clear-rounds-requires : tie.Need-clear-rounds-requires
 clear-rounds-requires c κs =
     let s = c .before .before .before .before .before .before .before .before .before .before .before .before .before .before .before .before in
-    (within s, subst (λ (k : ℕ). s .args .n ≤ k) (sym (c .before .before .before .before .before .before .before .before .before .flex-each .ensures .rounds-past .long)) (s .pre .divided .rounds-room))
+    (omega (arith, within s), omega (arith, within s, c .before .before .before .before .before .before .before .before .before .flex-each .ensures .rounds-past .long, s .pre .divided .rounds-room))
 
 same-length : tie.Need-same-length
 same-length c = search needs
