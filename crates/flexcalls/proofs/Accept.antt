@@ -4,14 +4,14 @@ use mathlib.Core.Logic.{_⊎_, inl, inr}
 use mathlib.Core.Bool.{Bool, true, false, cond, _&&_, false≢true}
 use mathlib.Core.List.{List, [], _∷_, _++_}
 use Prim.Native.Nat.{ℕ, zero, suc, _*_, _/_, _≤_, _<_, zero-le}
-use native.Mathlib.Nat.{le-trans, le-max-left, zero-mul, zero-div}
-use lib.Dec.{T, eqb, leb}
+use native.Mathlib.Nat.{zero-mul, zero-div}
+use lib.Dec.{T, eqb}
 use lib.ListN.{length, getD}
 use lib.IntN.{pos, negℤ, natAbs}
 use lib.Ieee.{Float, nan, inf, fin, up, down, ofBits}
-use borrow.Author.Tests.{leb-true, eqb-true}
 use Rattle.grid.specs.Grid.{Length, onGrid, sixtyFourths, cleaned}
 use Rattle.refusal.specs.Domain.{Input, float, code, checked, summed, then}
+use Rattle.refusal.specs.Lists.{besideAt}
 use Rattle.refusal.specs.Optional.{optional}
 use Rattle.refusal.specs.Marks.{leastMark, judged, AllFine, Sound}
 use Rattle.refusal.specs.declared.Kind.the-variants.{Size}
@@ -20,12 +20,13 @@ use Rattle.refusal.specs.declared.Refusal.{Refusal}
 use Rattle.refusal.specs.declared.Verdict.{Verdict}
 use Rattle.refusal.specs.declared.Verdict.the-variants.{Passed}
 use Rattle.refusal.specs.declared.Verdict.the-variants as verdict
-use Rattle.refusal.proofs.Checks.{judged-checked, accepted, then-passed, shape-passed, fine-append, fine-size, fine-margin}
+use Rattle.refusal.proofs.Checks.{judged-checked, accepted, then-passed, fine-append, fine-size, fine-margin}
+use Rattle.refusal.proofs.Marked.{shaped}
 use Rattle.flexing.specs.declared.Item.{Item}
 use Rattle.flexcalls.specs.declared.FlexAnswer.{FlexAnswer}
 use Rattle.flexing.specs.Flex.{nought, outerSum}
 use Rattle.flexing.specs.Items.{Lists, count, itemAt, itemsOf}
-use Rattle.flexcalls.specs.Call.{lengths, longest, alike, shapeOf, plainAt, besideAt, inputOf, lineVerdict, Answered}
+use Rattle.flexcalls.specs.Call.{shapeOf, plainAt, inputOf, lineVerdict, Answered}
 use Rattle.flexing.specs.Cells.{Margin, Measured, Even}
 use Rattle.flexcalls.specs.Parts.{Checked}
 
@@ -35,34 +36,29 @@ pub both : (a b : Bool) → (a && b) ≡ true → (a ≡ true) × (b ≡ true)
 both true b e = (refl, e)
 both false b e = absurd (false≢true e)
 
-abbrev Are : ℕ → List ℕ → Type 0
-Are n [] = Unit {0}
-Are n (k ∷ l) = (k ≡ n) × Are n l
-
-are : (n : ℕ) (l : List ℕ) → alike n l ≡ true → Are n l
-are n [] e = tt
-are n (k ∷ l) e = let p = both (eqb k n) (alike n l) e in (eqb-true k n (p .0), are n l (p .1))
+-- the lengths of the lists but the first
+abbrev others : Lists → List ℕ
+others ls =
+    length (ls .minimum) ∷ length (ls .maximum) ∷ length (ls .has-maximum) ∷ length (ls .edges) ∷ length (ls .grow) ∷ length (ls .shrink) ∷ length (ls .start) ∷ length (ls .end) ∷ length (ls .auto-start) ∷ length (ls .auto-end) ∷ []
 
 pub even-of : (ls : Lists) (room : ℕ) → shapeOf ls room ≡ Passed → Even ls × (count ls ≤ room)
 even-of ls room h =
-    let n = count ls in
-    let p = shape-passed (longest (lengths ls)) (leb n room && alike n (lengths ls)) h in
-    let q = both (leb n room) (alike n (lengths ls)) (p .1) in
-    let a = are n (lengths ls) (q .1) in (
+    let p = shaped (count ls) (others ls) (room ∷ []) h in
+    let a = p .1 in (
       record {
-        few = le-trans {m = longest (lengths ls)} (le-max-left n _) (p .0);
-        minimum = a .1 .0;
-        maximum = a .1 .1 .0;
-        has-maximum = a .1 .1 .1 .0;
-        edges = a .1 .1 .1 .1 .0;
-        grow = a .1 .1 .1 .1 .1 .0;
-        shrink = a .1 .1 .1 .1 .1 .1 .0;
-        start = a .1 .1 .1 .1 .1 .1 .1 .0;
-        end = a .1 .1 .1 .1 .1 .1 .1 .1 .0;
-        auto-start = a .1 .1 .1 .1 .1 .1 .1 .1 .1 .0;
-        auto-end = a .1 .1 .1 .1 .1 .1 .1 .1 .1 .1 .0;
+        few = p .0;
+        minimum = a .0;
+        maximum = a .1 .0;
+        has-maximum = a .1 .1 .0;
+        edges = a .1 .1 .1 .0;
+        grow = a .1 .1 .1 .1 .0;
+        shrink = a .1 .1 .1 .1 .1 .0;
+        start = a .1 .1 .1 .1 .1 .1 .0;
+        end = a .1 .1 .1 .1 .1 .1 .1 .0;
+        auto-start = a .1 .1 .1 .1 .1 .1 .1 .1 .0;
+        auto-end = a .1 .1 .1 .1 .1 .1 .1 .1 .1 .0;
       },
-      leb-true n room (q .0),
+      p .2 .0,
     )
 
 -- ---- a number as it is read
@@ -120,9 +116,9 @@ module _ (inner gap : Float) (ls : Lists) (s : Sound (inputOf inner gap ls)) whe
 
   pub measured-of : (i : ℕ) → i < count ls → Measured (itemAt ls i)
   measured-of i h =
-      let M = besideAt 1 (float Size) (ls .maximum) (ls .has-maximum) i in
-      let S = besideAt 0 (float kind.Margin) (ls .start) (ls .auto-start) i in
-      let E = besideAt 0 (float kind.Margin) (ls .end) (ls .auto-end) i in
+      let M = besideAt Size 1 (ls .maximum) (ls .has-maximum) i in
+      let S = besideAt kind.Margin 0 (ls .start) (ls .auto-start) i in
+      let E = besideAt kind.Margin 0 (ls .end) (ls .auto-end) i in
       let a = fine-append (plainAt (ls .base) (ls .minimum) (ls .edges) (ls .grow) (ls .shrink) i) (M ++ (S ++ E)) (s .items i h) in
       let b = fine-append M (S ++ E) (a .1) in
       let d = fine-append S E (b .1) in

@@ -7,12 +7,13 @@ use lib.Dec.{lit≤}
 use lib.ListN.{length}
 use lib.Ieee.{Float}
 use Rattle.refusal.specs.Domain.{Number, float}
+use Rattle.refusal.specs.Lists.{besideAt}
 use Rattle.refusal.specs.Marks.{mark, leastOf, leastUpTo, leastMark}
 use Rattle.refusal.specs.declared.Kind.the-variants.{Size, Margin}
 use Rattle.refusal.proofs.Order.{least-ext}
 use Rattle.refusal.proofs.Checks.{least-both, least-append, least-one}
 use Rattle.flexing.specs.Items.{Lists, count}
-use Rattle.flexcalls.specs.Call.{plainAt, besideAt, inputOf}
+use Rattle.flexcalls.specs.Call.{plainAt, inputOf}
 use Rattle.flexing.specs.Cells.{Even}
 
 -- the least mark of the numbers that each item has in f, and of those in a list of numbers of each
@@ -44,12 +45,12 @@ container-is x y a b r p q e = e ∙ ap₂ min p (q ∙ sym (least-one y 0 (lit�
 module _ (inner gap : Float) (ls : Lists) (even : Even ls) where
   -- all marks of a call
   pub input-is : (c p m s e a b r t : ℕ) → c ≡ leastOf (float Size inner ∷ float Size gap ∷ []) 0 → p ≡ several (plainAt (ls .base) (ls .minimum) (ls .edges) (ls .grow) (ls .shrink)) (count ls)
-      → m ≡ several (besideAt 1 (float Size) (ls .maximum) (ls .has-maximum)) (length (ls .maximum)) → s ≡ several (besideAt 0 (float Margin) (ls .start) (ls .auto-start)) (length (ls .start))
-      → e ≡ several (besideAt 0 (float Margin) (ls .end) (ls .auto-end)) (length (ls .end)) → a ≡ min s e → b ≡ min m a → r ≡ min p b → t ≡ min c r → t ≡ leastMark (inputOf inner gap ls)
+      → m ≡ several (besideAt Size 1 (ls .maximum) (ls .has-maximum)) (length (ls .maximum)) → s ≡ several (besideAt Margin 0 (ls .start) (ls .auto-start)) (length (ls .start))
+      → e ≡ several (besideAt Margin 0 (ls .end) (ls .auto-end)) (length (ls .end)) → a ≡ min s e → b ≡ min m a → r ≡ min p b → t ≡ min c r → t ≡ leastMark (inputOf inner gap ls)
   input-is c p m s e a b r t hc hp hm hs he ha hb hr ht =
-      let M = besideAt 1 (float Size) (ls .maximum) (ls .has-maximum) in
-      let S = besideAt 0 (float Margin) (ls .start) (ls .auto-start) in
-      let E = besideAt 0 (float Margin) (ls .end) (ls .auto-end) in
+      let M = besideAt Size 1 (ls .maximum) (ls .has-maximum) in
+      let S = besideAt Margin 0 (ls .start) (ls .auto-start) in
+      let E = besideAt Margin 0 (ls .end) (ls .auto-end) in
       let n = count ls in
       let qa = several-both S E n s e a (hs ∙ ap (several S) (even .start)) (he ∙ ap (several E) (even .end)) ha in
       let qb = several-both M (λ i. S i ++ E i) n m a b (hm ∙ ap (several M) (even .maximum)) qa hb in

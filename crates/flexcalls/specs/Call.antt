@@ -1,15 +1,14 @@
 -- What the call for one line takes, checks and answers (document 01, "Domain and refusal numbers" and "Flexible lengths"). Assumes nothing.
 use mathlib.Core.Path.{_≡_}
-use mathlib.Core.Bool.{Bool, true, _&&_}
 use mathlib.Core.List.{List, [], _∷_, _++_}
-use Prim.Native.Nat.{ℕ, max}
-use lib.Dec.{eqb, leb}
+use Prim.Native.Nat.{ℕ}
 use lib.ListN.{length, getD}
 use lib.IntN.{ℤ, pos}
 use lib.Ieee.{Float, nan}
 use Rattle.grid.specs.Grid.{cleaned}
-use Rattle.refusal.specs.Domain.{Number, float, code, Input, checked, shape, summed, then, Where, nowhere, refusalOf}
-use Rattle.refusal.specs.Optional.{optional}
+use Rattle.refusal.specs.Domain.{Number, float, Input, checked, summed, then, Where, nowhere, refusalOf}
+use Rattle.refusal.specs.Lists.{besideAt}
+use Rattle.refusal.specs.Shapes as shapes
 use Rattle.refusal.specs.declared.Kind.the-variants.{Size, Margin, Factor}
 use Rattle.refusal.specs.declared.Verdict.{Verdict}
 use Rattle.refusal.specs.declared.Verdict.the-variants.{Passed}
@@ -26,18 +25,9 @@ abbrev pub lengths : Lists → List ℕ
 lengths ls =
     length (ls .base) ∷ length (ls .minimum) ∷ length (ls .maximum) ∷ length (ls .has-maximum) ∷ length (ls .edges) ∷ length (ls .grow) ∷ length (ls .shrink) ∷ length (ls .start) ∷ length (ls .end) ∷ length (ls .auto-start) ∷ length (ls .auto-end) ∷ []
 
-abbrev pub longest : List ℕ → ℕ
-longest [] = 0
-longest (k ∷ l) = max k (longest l)
-
--- all are n
-abbrev pub alike : ℕ → List ℕ → Bool
-alike n [] = true
-alike n (k ∷ l) = eqb k n && alike n l
-
 -- the lists are of one length, and there are as many cells for the targets
 abbrev pub shapeOf : Lists → ℕ → Verdict
-shapeOf ls room = shape (longest (lengths ls)) (leb (count ls) room && alike (count ls) (lengths ls))
+shapeOf ls room = shapes.shapeOf (lengths ls) (room ∷ []) (count ls)
 
 -- ---- checks 3, 4 and 5: the numbers that are taken
 
@@ -45,15 +35,12 @@ shapeOf ls room = shape (longest (lengths ls)) (leb (count ls) room && alike (co
 abbrev pub plainAt : List Float → List Float → List Float → List Float → List Float → ℕ → List Number
 plainAt b l e g s i = float Size (getD b i nan) ∷ float Size (getD l i nan) ∷ float Size (getD e i nan) ∷ float Factor (getD g i nan) ∷ float Factor (getD s i nan) ∷ []
 
--- and a number beside its code, which is 0 or 1
-abbrev pub besideAt : ℕ → (Float → Number) → List Float → List ℕ → ℕ → List Number
-besideAt taken kind xs codes i = code 1 (getD codes i 0) ∷ optional (eqb (getD codes i 0) taken) (kind (getD xs i nan))
-
+-- and the maximum and the margins, each beside its code
 abbrev pub inputOf : Float → Float → Lists → Input
 inputOf inner gap ls = record {
   container = float Size inner ∷ float Size gap ∷ [];
   count = count ls;
-  item = λ i. plainAt (ls .base) (ls .minimum) (ls .edges) (ls .grow) (ls .shrink) i ++ (besideAt 1 (float Size) (ls .maximum) (ls .has-maximum) i ++ (besideAt 0 (float Margin) (ls .start) (ls .auto-start) i ++ besideAt 0 (float Margin) (ls .end) (ls .auto-end) i));
+  item = λ i. plainAt (ls .base) (ls .minimum) (ls .edges) (ls .grow) (ls .shrink) i ++ (besideAt Size 1 (ls .maximum) (ls .has-maximum) i ++ (besideAt Margin 0 (ls .start) (ls .auto-start) i ++ besideAt Margin 0 (ls .end) (ls .auto-end) i));
 }
 
 -- ---- checks 1 to 6 of a call with so much room

@@ -1,43 +1,26 @@
 // Checks 1 to 5 of a call: the lengths of its lists, and the numbers that it takes.
 ghost use mathlib.Core.Path.{_≡_};
-ghost use mathlib.Core.Bool.{true, _&&_};
+ghost use mathlib.Core.Bool.{true};
 ghost use mathlib.Core.List.{[], _∷_};
-ghost use Prim.Native.Nat.{_+_, _≤_, max};
-ghost use lib.Dec.{eqb, leb};
+ghost use Prim.Native.Nat.{_+_, _≤_};
 ghost use lib.ListN.{length};
-ghost use Rattle.refusal.specs.Domain.{float, shape, then};
+ghost use Rattle.refusal.specs.Domain.{shape, then};
 ghost use Rattle.refusal.specs.Marks.{leastOf, leastUpTo, leastMark};
+ghost use Rattle.refusal.specs.Shapes.{shapeOf};
 ghost use Rattle.flexing.specs.Items.{lists};
-ghost use Rattle.flexcalls.specs.Call.{longest, alike, plainAt, besideAt, inputOf};
 ghost use Rattle.flexing.specs.Cells.{Even};
+ghost use Rattle.flexcalls.specs.Call.{plainAt, inputOf};
 use refusal::Kind;
 use refusal::Mark;
 use refusal::Verdict;
 use refusal::least;
+use refusal::lists::mark_beside;
 use refusal::mark_float;
 use refusal::mark_floats;
 use refusal::no_mark;
-use refusal::optional::mark_codes;
-use refusal::optional::mark_floats_where;
-
-fn longer(a: usize, b: usize) -> usize
-    ensures { λ r. ⌜ r ≡ max a b ⌝ }
-{
-    if a < b { b } else { a }
-}
-
-// Whether one length more is n.
-pub fn is_alike(len: usize, n: usize, rest: bool) -> bool
-    ensures { λ r. ⌜ r ≡ (eqb len n && rest) ⌝ }
-{
-    if len == n { rest } else { false }
-}
-
-pub fn has_room(n: usize, room: usize, rest: bool) -> bool
-    ensures { λ r. ⌜ r ≡ (leb n room && rest) ⌝ }
-{
-    if n <= room { rest } else { false }
-}
+use refusal::shapes::has_room;
+use refusal::shapes::is_alike;
+use refusal::shapes::longer;
 
 // Checks 1 and 2, from the lengths of the lists and the cells for the targets.
 pub fn check_lengths(
@@ -54,7 +37,7 @@ pub fn check_lengths(
     auto_end: usize,
     room: usize,
 ) -> Verdict
-    ensures { λ r. ⌜ r ≡ shape (longest (base ∷ minimum ∷ maximum ∷ «has_maximum» ∷ edges ∷ grow ∷ shrink ∷ start ∷ end ∷ «auto_start» ∷ «auto_end» ∷ [])) (leb base room && alike base (base ∷ minimum ∷ maximum ∷ «has_maximum» ∷ edges ∷ grow ∷ shrink ∷ start ∷ end ∷ «auto_start» ∷ «auto_end» ∷ [])) ⌝ }
+    ensures { λ r. ⌜ r ≡ shapeOf (base ∷ minimum ∷ maximum ∷ «has_maximum» ∷ edges ∷ grow ∷ shrink ∷ start ∷ end ∷ «auto_start» ∷ «auto_end» ∷ []) (room ∷ []) base ⌝ }
 {
     let longest = longer(
         base,
@@ -134,7 +117,7 @@ pub fn check_lengths_with(
     auto_end: usize,
     room: usize,
 ) -> Verdict
-    ensures { λ r. ⌜ r ≡ then (shape counts true) (shape (longest (base ∷ minimum ∷ maximum ∷ «has_maximum» ∷ edges ∷ grow ∷ shrink ∷ start ∷ end ∷ «auto_start» ∷ «auto_end» ∷ [])) (leb base room && alike base (base ∷ minimum ∷ maximum ∷ «has_maximum» ∷ edges ∷ grow ∷ shrink ∷ start ∷ end ∷ «auto_start» ∷ «auto_end» ∷ []))) ⌝ }
+    ensures { λ r. ⌜ r ≡ then (shape counts true) (shapeOf (base ∷ minimum ∷ maximum ∷ «has_maximum» ∷ edges ∷ grow ∷ shrink ∷ start ∷ end ∷ «auto_start» ∷ «auto_end» ∷ []) (room ∷ []) base) ⌝ }
 {
     let v = refusal::check_shape(counts, true);
     match v {
@@ -172,17 +155,6 @@ fn mark_plain<'a>(
     let m = least(mark_floats(Kind::Size, edges), m);
     let m = least(mark_floats(Kind::Size, minimum), m);
     least(mark_floats(Kind::Size, base), m)
-}
-
-// The marks of numbers beside their codes.
-fn mark_beside<'a>(kind: Kind, xs: &'a [f32], codes: &'a [u32], taken: u32) -> Mark
-    requires { ⌜ (length (now xs) ≤ 1024) × (length (now codes) ≡ length (now xs)) ⌝ }
-    ensures { λ r. ⌜ r .0 ≡ leastUpTo (λ i. leastOf (besideAt taken (float kind) (now (xs .entry)) (now (codes .entry)) i) (i + 1)) (length (now (xs .entry))) ⌝ }
-{
-    least(
-        mark_codes(1, codes),
-        mark_floats_where(kind, xs, codes, taken),
-    )
 }
 
 // The least mark of all numbers that a line takes. No entry point: it asks for lists of one length.

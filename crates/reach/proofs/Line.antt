@@ -16,6 +16,7 @@ use Rattle.grid.specs.declared.Sixtyfourths.{Sixtyfourths}
 use Rattle.grid.specs.Grid.{At, onGrid, within, cleaned}
 use Rattle.grid.proofs.Exact.{le-at}
 use Rattle.refusal.specs.Domain.{float, code, notFinite, offGrid, outOfRange, inRange, summed, checked}
+use Rattle.refusal.specs.Lists.{besideAt}
 use Rattle.refusal.specs.Optional.{optional}
 use Rattle.refusal.specs.Marks.{Fine, AllFine, Sound}
 use Rattle.refusal.specs.declared.Kind.the-variants as kind
@@ -27,7 +28,7 @@ use Rattle.flexing.specs.Flex.{Cell, after, round, begun, first, grows, lineOf,
 use Rattle.flexing.specs.Items.{Lists, count, each, itemAt, itemsOf}
 use Rattle.flexing.proofs.Each.{length-each}
 use Rattle.flexcalls.specs.declared.FlexAnswer.the-variants.{Done}
-use Rattle.flexcalls.specs.Call.{shapeOf, plainAt, besideAt, inputOf, lineVerdict, FlexedLine}
+use Rattle.flexcalls.specs.Call.{shapeOf, plainAt, inputOf, lineVerdict, FlexedLine}
 use Rattle.flexcalls.proofs.Accept.{even-of}
 use Rattle.reach.specs.Reach.{IsSize, IsMargin, IsFactor, IsItem, IsLine, Each, HandedOn}
 use Rattle.reach.proofs.Reach.{reach}
@@ -137,9 +138,9 @@ long-targets inner gap items n = long-map (λ c. cleaned (c .target)) (after (li
 module _ (inner gap : Float) (ls : Lists) (grow : Singles (ls .grow) (count ls)) (shrink : Singles (ls .shrink) (count ls)) where
   item-is : Sound (inputOf inner gap ls) → (i : ℕ) → i < count ls → IsItem (itemAt ls i)
   item-is s i h =
-      let M = besideAt 1 (float kind.Size) (ls .maximum) (ls .has-maximum) i in
-      let S = besideAt 0 (float kind.Margin) (ls .start) (ls .auto-start) i in
-      let E = besideAt 0 (float kind.Margin) (ls .end) (ls .auto-end) i in
+      let M = besideAt kind.Size 1 (ls .maximum) (ls .has-maximum) i in
+      let S = besideAt kind.Margin 0 (ls .start) (ls .auto-start) i in
+      let E = besideAt kind.Margin 0 (ls .end) (ls .auto-end) i in
       let a = fine-append (plainAt (ls .base) (ls .minimum) (ls .edges) (ls .grow) (ls .shrink) i) (M ++ (S ++ E)) (s .items i h) in
       let b = fine-append M (S ++ E) (a .1) in
       let d = fine-append S E (b .1) in

@@ -9,9 +9,9 @@ use Rattle.flexcalls.proofs.checks.check_lengths.Statement.{statement}
 use Rattle.flexcalls.proofs.checks.check_lengths.Tie as tie
 use Rattle.flexcalls.proofs.checks.check_lengths.Reads as reads
 use Rattle.flexcalls.proofs.checks.check_lengths.Lts as lts
-use Rattle.flexcalls.proofs.checks.has_room.Reads as has-room-reads
-use Rattle.flexcalls.proofs.checks.is_alike.Reads as is-alike-reads
-use Rattle.flexcalls.proofs.checks.longer.Reads as longer-reads
+use Rattle.refusal.proofs.shapes.has_room.Reads as has-room-reads
+use Rattle.refusal.proofs.shapes.is_alike.Reads as is-alike-reads
+use Rattle.refusal.proofs.shapes.longer.Reads as longer-reads
 use Rattle.refusal.proofs.check_shape.Reads as check-shape-reads
 
 longer-requires : tie.Need-longer-requires

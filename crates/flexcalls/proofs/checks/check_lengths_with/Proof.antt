@@ -1,11 +1,9 @@
 -- Checks 1 and 2: where the counts are not too many, the lengths of the other lists decide. Assumes nothing.
 use mathlib.Core.Path.{sym, ap, _∙_}
-use mathlib.Core.Bool.{_&&_}
 use mathlib.Core.List.{[], _∷_}
-use lib.Dec.{leb}
-use Rattle.refusal.specs.Domain.{shape, then}
+use Rattle.refusal.specs.Domain.{then}
+use Rattle.refusal.specs.Shapes.{shapeOf}
 use Rattle.refusal.specs.declared.Verdict.{Verdict}
-use Rattle.flexcalls.specs.Call.{longest, alike}
 use borrow.Author.Needs.{needs}
 use Rattle.flexcalls.proofs.checks.check_lengths_with.Statement.{statement}
 use Rattle.flexcalls.proofs.checks.check_lengths_with.Tie as tie
@@ -16,7 +14,7 @@ use Rattle.refusal.proofs.check_shape.Reads as check-shape-reads
 
 -- the verdict of the other lists
 abbrev others : tie.Start → Verdict
-others s = let l = s .args .base ∷ s .args .minimum ∷ s .args .maximum ∷ s .args .has-maximum ∷ s .args .edges ∷ s .args .grow ∷ s .args .shrink ∷ s .args .start ∷ s .args .end ∷ s .args .auto-start ∷ s .args .auto-end ∷ [] in shape (longest l) (leb (s .args .base) (s .args .room) && alike (s .args .base) l)
+others s = let l = s .args .base ∷ s .args .minimum ∷ s .args .maximum ∷ s .args .has-maximum ∷ s .args .edges ∷ s .args .grow ∷ s .args .shrink ∷ s .args .start ∷ s .args .end ∷ s .args .auto-start ∷ s .args .auto-end ∷ [] in shapeOf l (s .args .room ∷ []) (s .args .base)
 
 check-shape-requires : tie.Need-check-shape-requires
 check-shape-requires c κs = search needs

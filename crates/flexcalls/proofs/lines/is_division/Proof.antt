@@ -9,8 +9,8 @@ use Rattle.flexcalls.proofs.lines.is_division.Statement.{statement}
 use Rattle.flexcalls.proofs.lines.is_division.Tie as tie
 use Rattle.flexcalls.proofs.lines.is_division.Reads as reads
 use Rattle.flexcalls.proofs.lines.is_division.Lts as lts
-use Rattle.flexcalls.proofs.checks.has_room.Reads as has-room-reads
-use Rattle.flexcalls.proofs.checks.is_alike.Reads as is-alike-reads
+use Rattle.refusal.proofs.shapes.has_room.Reads as has-room-reads
+use Rattle.refusal.proofs.shapes.is_alike.Reads as is-alike-reads
 use Rattle.flexcalls.proofs.lines.wide.Reads as wide-reads
 
 abbrev Inv-loop : tie.InvT-loop
