@@ -1,0 +1,39 @@
+-- The container of the pass, one struct of numbers: what it says of the limit, the direction and the cross axis. Assumes nothing.
+use mathlib.Core.Bool.{Bool, _||_}
+use Prim.Native.Nat.{ℕ, zero, suc}
+use lib.Dec.{eqb}
+use lib.Ieee.{Float}
+use Rattle.breaking.specs.declared.AvailableSpace.{AvailableSpace}
+use Rattle.breaking.specs.declared.AvailableSpace.the-variants.{Definite, MinContent, MaxContent}
+use Rattle.crossaxis.specs.declared.numbers.CrossNumbers.{CrossNumbers}
+use Rattle.container.specs.declared.Container.{Container}
+
+-- limit kinds: 0 definite, 1 min-content, 2 max-content; the number is read only under 0
+abbrev pub spaceOf : ℕ → Float → AvailableSpace
+spaceOf zero x = Definite x
+spaceOf (suc zero) x = MinContent
+spaceOf (suc (suc k)) x = MaxContent
+
+abbrev pub limitOf : Container → AvailableSpace
+limitOf c = spaceOf (c .«limit_kind») (c .limit)
+
+-- directions: 0 row, 1 row-reverse, 2 column, 3 column-reverse
+abbrev pub reversed : Container → Bool
+reversed c = eqb (c .direction) 1 || eqb (c .direction) 3
+
+-- wrap modes: 0 nowrap, 1 wrap, 2 wrap-reverse, 3 balance, 4 balance-reverse
+abbrev pub balances : ℕ → Bool
+balances wrap = eqb wrap 3 || eqb wrap 4
+
+-- the cross axis in numbers, wrap mode and all
+abbrev pub crossNumbersOf : Container → CrossNumbers
+crossNumbersOf c = record {
+  inner = c .«inner_cross»;
+  definite = c .«has_inner_cross»;
+  minimum = c .«minimum_cross»;
+  floored = c .«has_minimum_cross»;
+  maximum = c .«maximum_cross»;
+  capped = c .«has_maximum_cross»;
+  gap = c .«gap_cross»;
+  wrap = c .wrap;
+}

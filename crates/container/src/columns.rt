@@ -1,0 +1,46 @@
+// Lists of n cells one after another in one list: list k starts at cell k * n.
+ghost use mathlib.Core.Path.{_≡_};
+ghost use lib.ListN.{length};
+ghost use Rattle.container.specs.Columns.{column};
+ghost use Rattle.container.specs.Stages.{Inside, Stored};
+
+// List k of the items' numbers. No entry point: it is there.
+pub fn column<'a>(xs: &'a [f32], n: usize, k: usize) -> &'a [f32]
+    requires { ⌜ Inside n k (now xs) ⌝ }
+    ensures { λ r. ⌜ now r ≡ column n k (now (xs .entry)) ⌝ }
+{
+    let from = k * n;
+    let to = from + n;
+    &xs[from..to]
+}
+
+// The same of their codes.
+pub fn code_column<'a>(xs: &'a [u32], n: usize, k: usize) -> &'a [u32]
+    requires { ⌜ Inside n k (now xs) ⌝ }
+    ensures { λ r. ⌜ now r ≡ column n k (now (xs .entry)) ⌝ }
+{
+    let from = k * n;
+    let to = from + n;
+    &xs[from..to]
+}
+
+fn copy(xs: &[f32], to: &mut [f32])
+    requires { ⌜ length (now xs) ≡ length (now to) ⌝ }
+    ensures { λ _. ⌜ now (to .exit) ≡ now (xs .entry) ⌝ }
+{
+    let mut i = 0;
+    while i < xs.len() {
+        to[i] = xs[i];
+        i += 1;
+    }
+}
+
+// Writes list k of a lent list. No entry point: it is there.
+pub fn store_column(xs: &[f32], n: usize, k: usize, cells: &mut [f32])
+    requires { ⌜ Inside n k (now cells) × (length (now xs) ≡ n) ⌝ }
+    ensures { λ _. ⌜ Stored n k (now (xs .entry)) (now (cells .entry)) (now (cells .exit)) ⌝ }
+{
+    let from = k * n;
+    let to = from + n;
+    copy(xs, &mut cells[from..to]);
+}
