@@ -27,11 +27,11 @@ use Rattle.breaking.specs.Breaking.{Limit, limitOf}
 use Rattle.breaking.specs.Calls.{breakingVerdict, units, written}
 use Rattle.breaking.specs.Steps.{Breakable}
 use Rattle.breaking.proofs.Accepted.{breakable}
-use Rattle.balance.specs.Rule.{floored, Valid, Balanced}
+use Rattle.rule.specs.Rule.{floored, Valid, Balanced}
 use Rattle.balance.specs.Calls.{Lent, lent, shortestOf, hasRoom, balancedVerdict, zeroed, zeroedF, worked, Divides, BalancedCall}
-use Rattle.balance.specs.Run.{Divided, Cleared, ClearedF}
-use Rattle.balance.proofs.DpLaws.{lt-or-ge}
-use Rattle.balance.proofs.Unique.{balanced-one}
+use Rattle.division.specs.Divided.{Divided, Cleared, ClearedF}
+use Rattle.rule.proofs.DpLaws.{lt-or-ge}
+use Rattle.rule.proofs.Unique.{balanced-one}
 
 -- ---- room
 both : (a b : Bool) → T (a && b) → T a × T b

@@ -17,7 +17,7 @@ use Rattle.refusal.specs.declared.Answer.the-variants as answer
 use Rattle.breaking.specs.declared.AvailableSpace.{AvailableSpace}
 use Rattle.breaking.specs.Breaking.{limitOf}
 use Rattle.breaking.specs.Calls.{breakingVerdict, units, written}
-use Rattle.balance.specs.Rule.{Balanced}
+use Rattle.rule.specs.Rule.{Balanced}
 
 -- the lists that the call is lent: the counts by line, and the cells to work in
 pub record Lent : Type 0 where

@@ -4,92 +4,17 @@ ghost use mathlib.Core.Bool.{_&&_};
 ghost use Prim.Native.Nat.{_*_, _≤_};
 ghost use lib.Dec.{T, leb};
 ghost use lib.ListN.{length};
-ghost use Rattle.breaking.specs.Breaking.{limitOf};
-ghost use Rattle.breaking.specs.Steps.{Breakable, LengthLimit};
+ghost use Rattle.breaking.specs.Steps.{Breakable};
 ghost use Rattle.balance.specs.Calls.{lent, shortestOf, hasRoom, Divides, BalancedCall};
-ghost use Rattle.balance.specs.Tables.{LimitIs};
-ghost use Rattle.balance.specs.Run.{natural, Divided, Cleared, ClearedF};
 use breaking::AvailableSpace;
 use breaking::check_breaking;
-use cells::clear_work;
-use cells::smaller;
-use division::counts_of_sizes;
+use choice::cells::smaller;
+use division::divide;
 use refusal::Answer;
 use refusal::Verdict;
 use refusal::no_mark;
-use sums::Units;
-use sums::to_size;
-use sums::to_units;
-use tables::Cap;
 
-mod cells;
-mod choice;
-mod division;
-mod program;
-mod sums;
-mod tables;
-
-// The limit in sixty-fourths. Under min-content no line of several items fits, and no size is below 0.
-fn cap(limit: AvailableSpace) -> Cap
-    requires { ⌜ LengthLimit limit ⌝ }
-    ensures { λ r. ⌜ LimitIs (natural (limitOf limit)) (r .bounded) (r .most .0) ⌝ }
-{
-    match limit {
-        AvailableSpace::Definite(x) => Cap {
-            bounded: true,
-            most: to_units(x),
-        },
-        AvailableSpace::MinContent => Cap {
-            bounded: true,
-            most: Units(-1.0),
-        },
-        AvailableSpace::MaxContent => Cap {
-            bounded: false,
-            most: Units(0.0),
-        },
-    }
-}
-
-// The balanced division of accepted sizes, in lists of exactly the cells that it takes. The work lists are left zero.
-fn divide(
-    limit: AvailableSpace,
-    gap: f32,
-    minimum: u32,
-    sizes: &[f32],
-    counts: &mut [u32],
-    opts: &mut [u32],
-    fit: &mut [u32],
-    greedy: &mut [u32],
-    reach: &mut [u32],
-    sums: &mut [f64],
-    prev: &mut [f64],
-    cur: &mut [f64],
-) -> usize
-    requires { ⌜ Breakable limit gap (now sizes) ⌝ ∗ ⌜ (length (now counts) ≡ length (now sizes)) × (length (now opts) ≡ length (now sizes) * length (now sizes)) × (length (now fit) ≡ length (now sizes)) × (length (now greedy) ≡ length (now sizes)) × (length (now reach) ≡ length (now sizes)) × (length (now sums) ≡ length (now sizes)) × (length (now prev) ≡ length (now sizes)) × (length (now cur) ≡ length (now sizes)) ⌝ }
-    ensures { λ r. ⌜ Divided limit gap minimum (now (sizes .entry)) r (now (counts .exit)) ⌝ ∗ ⌜ Cleared (now (opts .entry)) (now (opts .exit)) × Cleared (now (fit .entry)) (now (fit .exit)) × Cleared (now (greedy .entry)) (now (greedy .exit)) × Cleared (now (reach .entry)) (now (reach .exit)) × ClearedF (now (sums .entry)) (now (sums .exit)) × ClearedF (now (prev .entry)) (now (prev .exit)) × ClearedF (now (cur .entry)) (now (cur .exit)) ⌝ }
-{
-    if sizes.len() == 0 {
-        return 0;
-    }
-    let lines = counts_of_sizes(
-        sizes,
-        to_size(gap),
-        cap(limit),
-        minimum as usize,
-        sums,
-        prev,
-        cur,
-        fit,
-        greedy,
-        reach,
-        opts,
-        counts,
-    );
-    clear_work(opts, fit, greedy, reach, sums, prev, cur);
-    lines
-}
-
-// The same in lists that may have more cells: the first n of each are lent, and n * n of opts. It works on accepted sizes: no entry point.
+// The balanced division of accepted sizes in lists that may have more cells than it takes: the first n of each are lent, and n * n of opts. It works on accepted sizes: no entry point.
 pub fn divide_within(
     limit: AvailableSpace,
     gap: f32,

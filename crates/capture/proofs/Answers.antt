@@ -18,18 +18,18 @@ use Rattle.refusal.specs.declared.Verdict.the-variants as verdict
 use Rattle.refusal.specs.declared.Answer.{Answer}
 use Rattle.breaking.specs.Calls.{breakingVerdict}
 use Rattle.balance.specs.Calls.{Lent, hasRoom, balancedVerdict, BalancedCall}
-use Rattle.capture.specs.Reading.{Reading, whole, broken, reading}
-use Rattle.capture.specs.Machine.{Fed, withSizes, fed, started, finished}
+use Rattle.format.specs.Reading.{Reading, whole, broken, reading}
+use Rattle.feeding.specs.Machine.{Fed, withSizes, fed, started, finished}
 use Rattle.capture.specs.Answer.{replyOf, verdictOf, ByVerdict, ByCount, Answered, AnsweredTo}
-use Rattle.capture.specs.declared.Head.{Head}
-use Rattle.capture.specs.declared.Reader.{Reader}
-use Rattle.capture.specs.declared.Captured.{Captured}
-use Rattle.capture.specs.declared.Captured.the-variants.{Whole}
-use Rattle.capture.specs.declared.Captured.the-variants as captured
-use Rattle.capture.specs.declared.Reply.{Reply}
-use Rattle.capture.specs.declared.Reply.the-variants.{Lines}
-use Rattle.capture.proofs.Sound.{fed-room}
-use Rattle.capture.proofs.Whole.{knownOf, toldBy, said}
+use Rattle.format.specs.declared.Head.{Head}
+use Rattle.feeding.specs.declared.Reader.{Reader}
+use Rattle.feeding.specs.declared.Captured.{Captured}
+use Rattle.feeding.specs.declared.Captured.the-variants.{Whole}
+use Rattle.feeding.specs.declared.Captured.the-variants as captured
+use Rattle.spelling.specs.declared.Reply.{Reply}
+use Rattle.spelling.specs.declared.Reply.the-variants.{Lines}
+use Rattle.feeding.proofs.Sound.{fed-room}
+use Rattle.feeding.proofs.Whole.{knownOf, toldBy, said}
 
 -- ---- the room
 

@@ -1,11 +1,2 @@
-pub mod Nan
-pub mod Front
-pub mod Sound
-pub mod Items
-pub mod Resume
-pub mod Turns
-pub mod Whole
-pub mod Format
-pub mod Puts
 pub mod Answers
 pub mod Unique

@@ -13,11 +13,11 @@ use Rattle.refusal.specs.declared.Verdict.the-variants.{Passed}
 use Rattle.refusal.specs.declared.Verdict.the-variants as verdict
 use Rattle.breaking.specs.Breaking.{limitOf}
 use Rattle.breaking.specs.Calls.{units, written}
-use Rattle.balance.proofs.Unique.{balanced-one}
-use Rattle.capture.specs.declared.Head.{Head}
-use Rattle.capture.specs.declared.Reply.{Reply}
-use Rattle.capture.specs.declared.Reply.the-variants.{Lines}
-use Rattle.capture.specs.Reading.{Reading, whole, broken}
+use Rattle.rule.proofs.Unique.{balanced-one}
+use Rattle.format.specs.declared.Head.{Head}
+use Rattle.spelling.specs.declared.Reply.{Reply}
+use Rattle.spelling.specs.declared.Reply.the-variants.{Lines}
+use Rattle.format.specs.Reading.{Reading, whole, broken}
 use Rattle.capture.specs.Answer.{verdictOf, Divided, ByVerdict, ByCount, Answered}
 
 module _ (before : List ℕ) (r s : Reply) (a c : List ℕ) where

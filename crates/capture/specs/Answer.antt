@@ -16,14 +16,14 @@ use Rattle.refusal.specs.declared.Answer.the-variants.{Done}
 use Rattle.refusal.specs.declared.Answer.the-variants as answer
 use Rattle.breaking.specs.Breaking.{limitOf}
 use Rattle.breaking.specs.Calls.{breakingVerdict, units, written}
-use Rattle.balance.specs.Rule.{Balanced}
-use Rattle.capture.specs.Reading.{Reading, whole, broken}
-use Rattle.capture.specs.declared.Head.{Head}
-use Rattle.capture.specs.declared.Captured.{Captured}
-use Rattle.capture.specs.declared.Captured.the-variants.{Whole}
-use Rattle.capture.specs.declared.Captured.the-variants as captured
-use Rattle.capture.specs.declared.Reply.{Reply}
-use Rattle.capture.specs.declared.Reply.the-variants.{Lines, Refused, Broken}
+use Rattle.rule.specs.Rule.{Balanced}
+use Rattle.format.specs.Reading.{Reading, whole, broken}
+use Rattle.format.specs.declared.Head.{Head}
+use Rattle.feeding.specs.declared.Captured.{Captured}
+use Rattle.feeding.specs.declared.Captured.the-variants.{Whole}
+use Rattle.feeding.specs.declared.Captured.the-variants as captured
+use Rattle.spelling.specs.declared.Reply.{Reply}
+use Rattle.spelling.specs.declared.Reply.the-variants.{Lines, Refused, Broken}
 
 -- a breaking call's answer as the capture's
 abbrev pub replyOf : Answer → Reply

@@ -1,70 +1,88 @@
-// Captures (document 01, "Records for the program"): from the bytes to the numbers, a burst at a time, and from the numbers to the answer.
-mod answering;
-mod feeding;
-mod record;
-mod text;
-
-pub use answering::answer;
-pub use answering::read;
-use breaking::AvailableSpace;
-pub use feeding::feed;
-pub use feeding::finish;
-pub use feeding::start;
+// Captures (document 01, "Records for the program"): from the bytes, or the numbers that were read, to the answer.
+ghost use mathlib.Core.Path.{_≡_};
+ghost use Prim.Native.Nat.{_≤_};
+ghost use lib.ListN.{length, take};
+ghost use lib.Dec.{ltb};
+ghost use Rattle.format.specs.Reading.{reading};
+ghost use Rattle.feeding.specs.Machine.{finished};
+ghost use Rattle.capture.specs.Answer.{replyOf, verdictOf, ByVerdict, ByCount, Answered, AnsweredTo};
+use feeding::Captured;
+use feeding::Reader;
+use feeding::feed;
+use feeding::finish;
+use feeding::start;
+use format::Head;
+use refusal::Answer;
 use refusal::Refusal;
-pub use text::spell;
+use spelling::Reply;
 
-// A record of kind 1: what the items are broken by.
-pub struct Head {
-    pub limit: AvailableSpace,
-    pub gap: f32,
-    pub minimum: u32,
+fn reply_of(a: Answer) -> Reply
+    ensures { λ r. ⌜ r ≡ replyOf a ⌝ }
+{
+    match a {
+        Answer::Done { lines, rounds: _ } => Reply::Lines(lines),
+        Answer::Refused(why) => Reply::Refused(why),
+    }
 }
 
-// Which records may stand next.
-pub enum Stage {
-    First,
-    Items,
-    Ended,
-    // A record broke: nothing can mend that.
-    Broken,
+// Balanced breaking, with the room to work in.
+fn break_items(head: Head, sizes: &[f32], counts: &mut [u32]) -> Reply
+    requires { ⌜ (length (now sizes) ≤ 64) × (length (now counts) ≡ 64) ⌝ }
+    ensures { λ r. ⌜ ByVerdict (verdictOf head (now (sizes .entry))) head (now (sizes .entry)) (now (counts .entry)) r (now (counts .exit)) ⌝ }
+{
+    let limit = head.limit;
+    let mut opts = [0u32; 4096];
+    let mut fit = [0u32; 64];
+    let mut greedy = [0u32; 64];
+    let mut reach = [0u32; 64];
+    let mut sums = [0.0f64; 64];
+    let mut prev = [0.0f64; 64];
+    let mut cur = [0.0f64; 64];
+    reply_of(balance::balanced(
+        limit,
+        head.gap,
+        head.minimum,
+        sizes,
+        counts,
+        &mut opts,
+        &mut fit,
+        &mut greedy,
+        &mut reach,
+        &mut sums,
+        &mut prev,
+        &mut cur,
+    ))
 }
 
-// What some bytes are, which start where a record is due.
-pub enum Parsed {
-    // The beginning of a record that may stand here.
-    Partial,
-    // No beginning of such a record.
-    Broken,
-    Head(Head),
-    Item(f32),
-    End,
+// The sizes are the first of `items`, as many as are kept.
+fn answer_items(head: Head, items: usize, sizes: &[f32], counts: &mut [u32]) -> Reply
+    requires { ⌜ (length (now sizes) ≡ 64) × (length (now counts) ≡ 64) ⌝ }
+    ensures { λ r. ⌜ ByCount (ltb 64 items) head (take items (now (sizes .entry))) (now (counts .entry)) r (now (counts .exit)) ⌝ }
+{
+    if 64 < items {
+        return Reply::Refused(Refusal::TooManyItems);
+    }
+    break_items(head, &sizes[..items], counts)
 }
 
-// Where the reading of a capture stands between two bytes. It comes from `start` and `feed` alone.
-pub struct Reader {
-    pub stage: Stage,
-    // The offset where the record starts that is being read, or the one that broke.
-    pub place: u64,
-    // How many of its bytes have come, and these bytes.
-    pub have: usize,
-    pub pending: [u8; 12],
-    // The record of kind 1, once it was read.
-    pub head: Head,
-    // How many items have been read, also those past the 64 that are kept.
-    pub items: usize,
+// The answer once the last byte was fed. For programs that feed a capture in parts: it asks for the lists that they feed.
+pub fn answer(r: Reader, sizes: &[f32], counts: &mut [u32]) -> Reply
+    requires { ⌜ (length (now sizes) ≡ 64) × (length (now counts) ≡ 64) ⌝ }
+    ensures { λ s. ⌜ AnsweredTo (finished r) (now (sizes .entry)) (now (counts .entry)) s (now (counts .exit)) ⌝ }
+{
+    let said = finish(r);
+    match said {
+        Captured::Broken(place) => Reply::Broken(place),
+        Captured::Whole { head, items } => answer_items(head, items, sizes, counts),
+    }
 }
 
-// What a capture says, once its last byte was fed.
-pub enum Captured {
-    Whole { head: Head, items: usize },
-    // The offset where the faulty record starts. A record that the capture's end cuts is faulty, and so is a missing one.
-    Broken(u64),
-}
-
-// The answer to a capture. The counts of the lines are in the list that was lent.
-pub enum Reply {
-    Lines(u32),
-    Refused(Refusal),
-    // Answer 7, and its byte offset.
-    Broken(u64),
+// Reads a whole capture to its answer. Nothing is asked of the bytes.
+pub fn read(bytes: &[u8], counts: &mut [u32; 64]) -> Reply
+    ensures { λ r. ⌜ Answered (reading (now (bytes .entry))) (now (counts .entry)) r (now (counts .exit)) ⌝ }
+    ensures { λ r. ⌜ length (now (counts .exit)) ≡ 64 ⌝ }
+{
+    let mut sizes = [0.0f32; 64];
+    let r = feed(start(), bytes, &mut sizes);
+    answer(r, &sizes, counts)
 }

@@ -5,7 +5,7 @@ fn show(name: &[u8], bytes: &[u8]) {
     let mut counts = [0u32; 64];
     let mut text = [0u8; 2048];
     let reply = capture::read(bytes, &mut counts);
-    let n = capture::spell(reply, &counts, &mut text);
+    let n = spelling::spell(reply, &counts, &mut text);
     io::write_all(1, name);
     io::write_all(1, b":\n");
     io::write_all(1, &text[..n]);

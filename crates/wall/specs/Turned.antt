@@ -4,8 +4,8 @@ use mathlib.Core.List.{List}
 use Prim.Native.Nat.{ℕ, _+_}
 use lib.ListN.{length}
 use lib.Ieee.{Float}
-use Rattle.capture.specs.Machine.{Ready}
-use Rattle.capture.specs.declared.Reader.{Reader}
+use Rattle.feeding.specs.Machine.{Ready}
+use Rattle.feeding.specs.declared.Reader.{Reader}
 use Rattle.wall.specs.declared.Turn.{Turn}
 
 pub record Turned (before : Reader) (room : List Float) (turn : Turn) (after : List Float) : Type 0 where

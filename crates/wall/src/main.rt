@@ -1,12 +1,12 @@
 // The program: a capture on standard input, its answer on standard output.
 ghost use mathlib.Core.Path.{_≡_};
 ghost use lib.ListN.{length};
-ghost use Rattle.capture.specs.Machine.{Ready};
+ghost use Rattle.feeding.specs.Machine.{Ready};
 ghost use Rattle.wall.specs.Turned.{Turned};
-use capture::Reader;
-use capture::Reply;
+use feeding::Reader;
 use libc::STDIN_FILENO;
 use libc::STDOUT_FILENO;
+use spelling::Reply;
 
 struct Turn {
     reader: Reader,
@@ -21,7 +21,7 @@ fn read_some(reader: Reader, sizes: &mut [f32; 64]) -> Turn
     let mut buffer = io::large_buffer();
     let got = libc::read(STDIN_FILENO, &mut buffer);
     let n = io::count(got, &buffer);
-    let next = capture::feed(reader, &buffer[..n], sizes);
+    let next = feeding::feed(reader, &buffer[..n], sizes);
     Turn {
         reader: next,
         bytes: n,
@@ -32,7 +32,7 @@ fn print(reply: Reply, counts: &[u32])
     requires { ⌜ length (now counts) ≡ 64 ⌝ }
 {
     let mut text = [0u8; 2048];
-    let n = capture::spell(reply, counts, &mut text);
+    let n = spelling::spell(reply, counts, &mut text);
     io::write_all(STDOUT_FILENO, &text[..n]);
 }
 
@@ -40,7 +40,7 @@ fn print(reply: Reply, counts: &[u32])
 fn main() {
     let mut sizes = [0.0f32; 64];
     let mut counts = [0u32; 64];
-    let mut reader = capture::start();
+    let mut reader = feeding::start();
     let mut turns: u64 = 0x8000_0000_0000;
     while turns > 0 {
         let t = read_some(reader, &mut sizes);

@@ -2,7 +2,7 @@
 use mathlib.Core.Path.{sym}
 use native.Mathlib.Omega.{arith}
 use lib.Seq.{length-take-le}
-use Rattle.capture.proofs.Puts.{within}
+use Rattle.spelling.proofs.Puts.{within}
 use borrow.Author.Needs.{needs}
 use Rattle.captures.proofs.show.Statement.{statement}
 use Rattle.captures.proofs.show.Tie as tie

@@ -3,10 +3,10 @@ use mathlib.Core.Path.{_≡_, refl, sym, _∙_, subst}
 use Prim.Native.Nat.{_*_, _+_, _-_}
 use native.Mathlib.Omega.{arith}
 use lib.ListN.{length}
-use Rattle.capture.specs.Machine.{Ready}
-use Rattle.capture.specs.declared.Reader.{Reader}
-use Rattle.capture.proofs.Sound.{ready-less}
-use Rattle.capture.proofs.Whole.{started-sound}
+use Rattle.feeding.specs.Machine.{Ready}
+use Rattle.feeding.specs.declared.Reader.{Reader}
+use Rattle.feeding.proofs.Sound.{ready-less}
+use Rattle.feeding.proofs.Whole.{started-sound}
 use Rattle.wall.proofs.main.Statement.{statement}
 use Rattle.wall.proofs.main.Tie as tie
 

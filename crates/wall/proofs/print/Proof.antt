@@ -1,7 +1,7 @@
 -- `wall::print` meets its contract: the text is within its room. Assumes nothing.
 use mathlib.Core.Path.{sym}
 use lib.Seq.{length-take-le}
-use Rattle.capture.proofs.Puts.{within}
+use Rattle.spelling.proofs.Puts.{within}
 use borrow.Author.Needs.{needs}
 use Rattle.wall.proofs.print.Statement.{statement}
 use Rattle.wall.proofs.print.Tie as tie

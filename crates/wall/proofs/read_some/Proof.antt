@@ -4,8 +4,8 @@ use Prim.Native.Nat.{_+_}
 use native.Mathlib.Omega.{arith}
 use lib.ListN.{length}
 use denote.Ref.{now}
-use Rattle.capture.specs.Machine.{Fed, withSizes}
-use Rattle.capture.proofs.Sound.{feed-ready, ready-less, fed-room}
+use Rattle.feeding.specs.Machine.{Fed, withSizes}
+use Rattle.feeding.proofs.Sound.{feed-ready, ready-less, fed-room}
 use borrow.Author.Needs.{needs}
 use Rattle.wall.proofs.read_some.Statement.{statement}
 use Rattle.wall.proofs.read_some.Tie as tie

@@ -1,0 +1,4 @@
+pub mod Clearing
+pub mod ReadingLaws
+pub mod Finish
+pub mod RunLaws

@@ -1,0 +1,4 @@
+pub mod Sound
+pub mod Resume
+pub mod Turns
+pub mod Whole

@@ -1,0 +1,4 @@
+pub mod Nan
+pub mod Front
+pub mod Items
+pub mod Format

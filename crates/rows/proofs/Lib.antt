@@ -1,0 +1,3 @@
+pub mod TablesLaws
+pub mod ProgramLaws
+pub mod PixelsLaws

@@ -1,0 +1,7 @@
+pub mod Unique
+pub mod DpLaws
+pub mod EndsLaws
+pub mod SizesLaws
+pub mod Exists
+pub mod Bridge
+pub mod Check

@@ -1,0 +1,5 @@
+pub mod Rule
+pub mod Natural
+pub mod Dp
+pub mod Ends
+pub mod Sizes

@@ -1,0 +1,105 @@
+-- `spelling::put_refused` meets its contract: the number and place of each case are those of `refusalOf`. Assumes nothing.
+use borrow.Author.Needs.{needs}
+use Rattle.spelling.proofs.put_refused.Statement.{statement}
+use Rattle.spelling.proofs.put_refused.Tie as tie
+
+enum-told : tie.Need-enum-told
+enum-told c = search needs
+
+put-refusal-requires : tie.Need-put-refusal-requires
+put-refusal-requires c κs = search needs
+
+enum-told-2 : tie.Need-enum-told-2
+enum-told-2 c = search needs
+
+put-refusal-requires-2 : tie.Need-put-refusal-requires-2
+put-refusal-requires-2 c κs = search needs
+
+enum-known-why : tie.Need-enum-known-why
+enum-known-why c = search needs
+
+put-refusal-requires-3 : tie.Need-put-refusal-requires-3
+put-refusal-requires-3 c κs = search needs
+
+enum-known-why-2 : tie.Need-enum-known-why-2
+enum-known-why-2 c = search needs
+
+put-refusal-requires-4 : tie.Need-put-refusal-requires-4
+put-refusal-requires-4 c κs = search needs
+
+enum-known-why-3 : tie.Need-enum-known-why-3
+enum-known-why-3 c = search needs
+
+put-refusal-requires-5 : tie.Need-put-refusal-requires-5
+put-refusal-requires-5 c κs = search needs
+
+enum-told-3 : tie.Need-enum-told-3
+enum-told-3 c = search needs
+
+put-refusal-requires-6 : tie.Need-put-refusal-requires-6
+put-refusal-requires-6 c κs = search needs
+
+same-length : tie.Need-same-length
+same-length c = search needs
+
+returns : tie.Need-returns
+returns c = rw (c .before .before .before .before .enum-told .given .1) (c .before .before .put-refusal .ensures)
+
+same-length-2 : tie.Need-same-length-2
+same-length-2 c = search needs
+
+returns-2 : tie.Need-returns-2
+returns-2 c = rw (c .before .before .before .before .enum-told2 .given .1) (c .before .before .put-refusal2 .ensures)
+
+same-length-3 : tie.Need-same-length-3
+same-length-3 c = search needs
+
+returns-3 : tie.Need-returns-3
+returns-3 c = rw (c .before .before .before .before .before .why .given .1) (c .before .before .put-refusal3 .ensures)
+
+same-length-4 : tie.Need-same-length-4
+same-length-4 c = search needs
+
+returns-4 : tie.Need-returns-4
+returns-4 c = rw (c .before .before .before .before .before .why2 .given .1) (c .before .before .put-refusal4 .ensures)
+
+same-length-5 : tie.Need-same-length-5
+same-length-5 c = search needs
+
+returns-5 : tie.Need-returns-5
+returns-5 c = rw (c .before .before .before .before .before .why3 .given .1) (c .before .before .put-refusal5 .ensures)
+
+same-length-6 : tie.Need-same-length-6
+same-length-6 c = search needs
+
+returns-6 : tie.Need-returns-6
+returns-6 c = rw (c .before .before .before .before .enum-told3 .given .1) (c .before .before .put-refusal6 .ensures)
+
+pub put-refused-spec : {M : Type 1} → statement M
+put-refused-spec =
+    tie.close
+    (tie.spec
+    enum-told
+    put-refusal-requires
+    enum-told-2
+    put-refusal-requires-2
+    enum-known-why
+    put-refusal-requires-3
+    enum-known-why-2
+    put-refusal-requires-4
+    enum-known-why-3
+    put-refusal-requires-5
+    enum-told-3
+    put-refusal-requires-6
+    same-length
+    returns
+    same-length-2
+    returns-2
+    same-length-3
+    returns-3
+    same-length-4
+    returns-4
+    same-length-5
+    returns-5
+    same-length-6
+    returns-6)
