@@ -4,4 +4,3 @@ pub mod EndsLaws
 pub mod SizesLaws
 pub mod Exists
 pub mod Bridge
-pub mod Check

@@ -302,40 +302,3 @@ case-by-test c t =
       count = record { greedy = c .greedy; is-greedy = greedyB→ l (c .gap) xs (c .greedy) (and-l A (K && B) t); is = eqb→eq (length (c .counts)) (max (length (c .greedy)) (held (c .minimum) (length xs))) (and-l K B u) };
       chosen = chosen-by-test l (c .gap) xs (c .counts) (and-r K B u);
     })
-
--- THE TABLE of document 01, P1 to P9, and the list of its "Easy slips"
-abbrev px : ℕ → ℤ
-px n = pos (n * 64)
-
-abbrev pub table : List Case
-table =
-    record { limit = limit.definite (px 100); gap = 640; sizes = px 70 ∷ px 0 ∷ px 20 ∷ []; minimum = 1; greedy = 2 ∷ 1 ∷ []; counts = 2 ∷ 1 ∷ [] }
-    ∷ record { limit = limit.definite (px 100); gap = 0; sizes = px 150 ∷ px 0 ∷ px 30 ∷ []; minimum = 1; greedy = 1 ∷ 2 ∷ []; counts = 1 ∷ 2 ∷ [] }
-    ∷ record { limit = limit.definite (px 100); gap = 0; sizes = px 70 ∷ px 0 ∷ px 0 ∷ []; minimum = 2; greedy = 3 ∷ []; counts = 2 ∷ 1 ∷ [] }
-    ∷ record { limit = limit.definite (px 100); gap = 0; sizes = px 10 ∷ px 10 ∷ px 10 ∷ []; minimum = 2; greedy = 3 ∷ []; counts = 2 ∷ 1 ∷ [] }
-    ∷ record { limit = limit.definite (px 150); gap = 0; sizes = px 50 ∷ px 50 ∷ px 50 ∷ px 10 ∷ []; minimum = 1; greedy = 3 ∷ 1 ∷ []; counts = 2 ∷ 2 ∷ [] }
-    ∷ record { limit = limit.definite (px 100); gap = 640; sizes = px 45 ∷ px 45 ∷ []; minimum = 1; greedy = 2 ∷ []; counts = 2 ∷ [] }
-    ∷ record { limit = limit.max-content; gap = 0; sizes = px 5 ∷ []; minimum = 9; greedy = 1 ∷ []; counts = 1 ∷ [] }
-    ∷ record { limit = limit.definite (px 100); gap = 0; sizes = []; minimum = 1; greedy = []; counts = [] }
-    ∷ record { limit = limit.max-content; gap = 0; sizes = px 5 ∷ px 6 ∷ []; minimum = 0; greedy = 2 ∷ []; counts = 2 ∷ [] }
-    ∷ record { limit = limit.definite (px 90); gap = 640; sizes = px 30 ∷ px 5 ∷ px 40 ∷ px 20 ∷ px 0 ∷ px 0 ∷ px 35 ∷ []; minimum = 1; greedy = 2 ∷ 4 ∷ 1 ∷ []; counts = 2 ∷ 1 ∷ 4 ∷ [] }
-    ∷ []
-
-abbrev tableB : List Case → Bool
-tableB [] = true
-tableB (c ∷ cs) = caseB c && tableB cs
-
-table-passes : T (tableB table)
-table-passes = tt
-
-abbrev pub Every : List Case → Type 0
-Every [] = Unit {0}
-Every (c ∷ cs) = rule.Balanced (c .limit) (pos (c .gap)) (c .sizes) (c .minimum) (c .counts) × Every cs
-
-every-case : (cs : List Case) → T (tableB cs) → Every cs
-every-case [] t = tt
-every-case (c ∷ cs) t = (case-by-test c (and-l (caseB c) (tableB cs) t), every-case cs (and-r (caseB c) (tableB cs) t))
-
--- each case of the table is what the plain rule says
-pub table-holds : Every table
-table-holds = every-case table table-passes

@@ -1,0 +1,2 @@
+mod Check
+pub mod Table
