@@ -8,7 +8,7 @@ use Rattle.grid.specs.Grid.{sixtyFourths}
 use Rattle.breaking.specs.declared.AvailableSpace.{AvailableSpace}
 use Rattle.breaking.specs.Breaking.{limitOf, greedy}
 use Rattle.breaking.specs.Calls.{units, written}
-use Rattle.balance.specs.Rule as rule
+use Rattle.rule.specs.Rule as rule
 use Rattle.balance.specs.Calls.{zeroed, zeroedF}
 use Rattle.wrapping.specs.declared.Mode.{Mode}
 use Rattle.wrapping.specs.declared.Mode.the-variants.{Single, Greedy, Balanced}
