@@ -200,6 +200,13 @@ void known_differences() {
         for (std::size_t i = 0; i < lines; i++) std::printf(" %u", made[i]);
         std::printf("\n");
     }
+    // D10: a host of ours cannot say `safe stretch`; code 11 says it to the Rust alone.
+    judge_container c{};
+    judge_item it{};
+    float placed[4];
+    c.wrap = 1, it.auto_cross_size = 1, it.align_self = 11;
+    judge_across(&c, 20.0f, &it, 1, placed);
+    std::printf("safe stretch in a line of 20: the Rust's size is %g\n", double(placed[0]));
 }
 
 void all_short() {

@@ -38,7 +38,7 @@ private:
     void scale() {
         unit_ = pick(std::array<int64_t, 8>{1, 1, 64, 64, 64, 37, 640, 6400});
         span_ = pick(std::array<int64_t, 5>{3, 5, 9, 20, 100});
-        if (one_in(12)) unit_ = 1, span_ = int64_t(1) << below(22);
+        if (one_in(12)) unit_ = 1, span_ = int64_t(1) << below(25);
     }
     int64_t units() { return int64_t(below(uint64_t(span_))) * unit_; }
     static float px(int64_t sixtyfourths) { return float(double(sixtyfourths) / 64.0); }

@@ -1,0 +1,234 @@
+// hostile SEED CALLS: any bits in every argument of every exported call, on lists with canaries or forbidden pages beside them.
+// Writes each call with the number and place that it answered, for judge/refusals.py; what a refusal must leave alone is looked at here.
+#include <array>
+#include <cinttypes>
+
+#include "../host/tests/lent.hpp"
+#include "case.hpp"
+#include "random_cases.hpp"
+
+namespace {
+
+long bad = 0, calls = 0;
+
+void expect(bool ok, const char *what, const std::string &line) {
+    if (ok) return;
+    if (++bad <= 20) std::fprintf(stderr, "HOSTILE: %s: %.1000s\n", what, line.c_str());
+}
+
+// ---- a call as text
+
+class Text {
+public:
+    explicit Text(const char *call) : line_(call) {}
+    Text &f(float x) { return word(hex(x)); }
+    Text &u(uint64_t x) { return word(std::to_string(x)); }
+    Text &cells(const void *record, std::size_t n, const Cell *names) {
+        for (std::size_t i = 0; i < n; i++) names[i].is_float ? f(float_of(cell_of(record, i))) : u(cell_of(record, i));
+        return *this;
+    }
+    template <class T>
+    Text &list(const std::vector<T> &xs) {
+        std::string all = "[";
+        for (T x : xs) all += (all.size() > 1 ? "," : "") + shown(x);
+        return word(all + "]");
+    }
+    Text &items(const std::vector<model::Item> &items) {
+        std::string all = "[";
+        for (const model::Item &it : items)
+            for (std::size_t i = 0; i < 22; i++) {
+                const uint32_t bits = cell_of(&it, i);
+                all += (all.size() > 1 ? "," : "") + (item_cells[i].is_float ? shown(float_of(bits)) : shown(bits));
+            }
+        return word(all + "]");
+    }
+    const std::string &answered(uint32_t number, uint32_t where, uint32_t place) {
+        line_ += " => " + std::to_string(number) + " " + std::to_string(where) + " " + std::to_string(place);
+        std::puts(line_.c_str());
+        calls++;
+        return line_;
+    }
+
+private:
+    static std::string hex(float x) {
+        char text[16];
+        std::snprintf(text, sizeof text, "x%08x", model::bits(x));
+        return text;
+    }
+    static std::string shown(float x) { return hex(x); }
+    static std::string shown(uint32_t x) { return std::to_string(x); }
+    Text &word(const std::string &w) {
+        line_ += " " + w;
+        return *this;
+    }
+    std::string line_;
+};
+
+// ---- damage
+
+std::mt19937_64 chance;
+uint64_t below(uint64_t n) { return chance() % n; }
+bool one_in(uint64_t n) { return below(n) == 0; }
+
+float any_float() {
+    constexpr float edges[] = {262144.0f, 131072.0f, 16777216.0f, 1024.0f, 0.015625f, 0.0078125f, 1.0f, 0.0f, 2.0f};
+    float x = edges[below(9)];
+    switch (below(6)) {
+    case 0: return float_of(uint32_t(chance()));
+    case 1: return float_of(0x7f800000u + uint32_t(below(3)) * uint32_t(below(0x400000)) + (one_in(2) ? 0x80000000u : 0));
+    case 2: return float_of(uint32_t(below(3)) + (one_in(2) ? 0x80000000u : 0)); // 0, -0.0, the least
+    case 3: x = std::nextafterf(x, one_in(2) ? 3e38f : -3e38f); break;
+    case 4: x = float(below(1 << 24)) / 64.0f; break;
+    default: break;
+    }
+    return one_in(2) ? -x : x;
+}
+
+uint32_t any_code() { return one_in(3) ? uint32_t(chance()) : uint32_t(below(16)); }
+
+void damage_cell(void *record, std::size_t i, const Cell &cell) {
+    if (cell.is_float) {
+        const float x = any_float();
+        set_cell(record, i, model::bits(x));
+    } else {
+        set_cell(record, i, any_code());
+    }
+}
+
+int damages() { return std::array{0, 0, 1, 1, 1, 2, 3, 8}[below(8)]; }
+
+std::size_t any_count(std::size_t small) { return one_in(150) ? 1020 + below(8) : small; }
+
+// Cells to lend for a list that needs `named`: those, more, or too few.
+std::size_t room(std::size_t named) {
+    switch (below(24)) {
+    case 0: return named ? named - 1 : 0;
+    case 1: return named ? below(named) : 0;
+    case 2: return named + 1 + below(20);
+    case 3: return named + 1;
+    default: return named;
+    }
+}
+
+Stand any_stand() { return std::array{Stand::between_canaries, Stand::before_a_page, Stand::after_a_page}[below(3)]; }
+
+constexpr std::size_t most = 1200;
+Lent<float> in_floats[9] = {Lent<float>(most), Lent<float>(most), Lent<float>(most), Lent<float>(most), Lent<float>(most),
+                            Lent<float>(most), Lent<float>(most), Lent<float>(most), Lent<float>(most)};
+Lent<uint32_t> in_codes[4] = {Lent<uint32_t>(most), Lent<uint32_t>(most), Lent<uint32_t>(most), Lent<uint32_t>(most)};
+Lent<float> out_floats[3] = {Lent<float>(9 * most), Lent<float>(3 * most), Lent<float>(most)};
+Lent<uint32_t> out_codes[5] = {Lent<uint32_t>(1024 * 1024 + 5 * most), Lent<uint32_t>(most), Lent<uint32_t>(most), Lent<uint32_t>(most), Lent<uint32_t>(most)};
+Lent<int32_t> out_ints(most);
+Lent<double> out_doubles[3] = {Lent<double>(4 * most), Lent<double>(most), Lent<double>(most)};
+
+// Whether the first `named` cells may have changed, and nothing else has.
+template <class T>
+bool kept(const Lent<T> &list, bool accepted, std::size_t named) {
+    return list.kept_from(accepted ? named : 0);
+}
+
+// ---- breaking
+
+void try_break_limit(Draw &draw) {
+    Breaking b = draw.next(Stage::greedy).breaking;
+    for (int i = damages(); i > 0; i--) {
+        const std::size_t at = below(9);
+        damage_cell(&b, at, breaking_cells[at]);
+    }
+    const auto a = fratolivem_break_limit(b.known_is_definite, b.main_is_definite, b.is_row, b.available_kind, b.available, b.has_minimum,
+                                          b.minimum, b.has_maximum, b.maximum);
+    const std::string line = Text("break_limit").cells(&b, 9, breaking_cells).answered(a.number, a.where, a.place);
+    expect(a.number == 0 || (a.kind == FRATOLIVEM_NO_LIMIT && model::bits(a.limit) == 0), "a refused limit has a value", line);
+}
+
+struct BreakingCall {
+    uint32_t kind;
+    float limit, gap;
+    uint32_t minimum;
+    std::vector<float> sizes;
+};
+
+BreakingCall breaking_call(Draw &draw) {
+    draw.most_items = 8;
+    const Case c = draw.next(Stage::balanced);
+    BreakingCall b{c.breaking.available_kind, c.breaking.available, c.breaking.gap, c.breaking.line_count, c.list};
+    if (one_in(10)) b.sizes.clear();
+    const std::size_t n = any_count(b.sizes.size());
+    while (b.sizes.size() < n) b.sizes.push_back(float(below(4)));
+    for (int i = damages(); i > 0; i--) switch (below(4)) {
+        case 0: b.kind = any_code(); break;
+        case 1: b.limit = any_float(); break;
+        case 2: b.gap = any_float(); break;
+        default:
+            if (!b.sizes.empty()) b.sizes[below(b.sizes.size())] = any_float();
+        }
+    if (one_in(3)) b.minimum = any_code();
+    return b;
+}
+
+void try_greedy(Draw &draw) {
+    const BreakingCall b = breaking_call(draw);
+    const std::size_t n = b.sizes.size();
+    in_floats[0].lend(b.sizes, any_stand()), out_codes[1].lend(room(n), any_stand());
+    const auto a = fratolivem_greedy(b.kind, b.limit, b.gap, in_floats[0].data(), n, out_codes[1].data(), out_codes[1].size());
+    const std::string line = Text("greedy").u(b.kind).f(b.limit).f(b.gap).list(b.sizes).u(out_codes[1].size()).answered(a.number, a.where, a.place);
+    expect(in_floats[0].kept() && kept(out_codes[1], a.number == 0, n), "other cells were changed", line);
+    expect(a.number == 0 || (a.lines == 0 && a.rounds == 0), "a refusal has lines or rounds", line);
+}
+
+void try_balanced(Draw &draw) {
+    const BreakingCall b = breaking_call(draw);
+    const std::size_t n = b.sizes.size(), m = n > 1024 ? 0 : n;
+    in_floats[0].lend(b.sizes, any_stand()), out_codes[1].lend(room(n), any_stand());
+    out_codes[0].lend(room(m * m + 3 * m), any_stand()), out_doubles[0].lend(room(3 * m), any_stand());
+    const auto a = fratolivem_balanced(b.kind, b.limit, b.gap, b.minimum, in_floats[0].data(), n, out_codes[1].data(), out_codes[1].size(),
+                                       out_codes[0].data(), out_codes[0].size(), out_doubles[0].data(), out_doubles[0].size());
+    const std::string line = Text("balanced").u(b.kind).f(b.limit).f(b.gap).u(b.minimum).list(b.sizes).u(out_codes[1].size())
+                                 .u(out_codes[0].size()).u(out_doubles[0].size()).answered(a.number, a.where, a.place);
+    const bool ok = a.number == 0;
+    expect(in_floats[0].kept() && kept(out_codes[1], ok, n) && kept(out_codes[0], ok, m * m + 3 * m) && kept(out_doubles[0], ok, 3 * m),
+           "other cells were changed", line);
+    expect(!ok || (out_codes[0].zero_up_to(m * m + 3 * m) && out_doubles[0].zero_up_to(3 * m)), "work cells are not 0", line);
+    expect(ok || (a.lines == 0 && a.rounds == 0), "a refusal has lines or rounds", line);
+}
+
+void try_parts(Draw &draw) {
+    const BreakingCall b = breaking_call(draw);
+    const std::size_t n = b.sizes.size(), m = n > 1024 ? 0 : n;
+    in_floats[0].lend(b.sizes, any_stand());
+    out_codes[0].lend(room(m * m), any_stand());
+    for (int i = 1; i < 5; i++) out_codes[i].lend(room(n), any_stand());
+    for (auto &list : out_doubles) list.lend(room(n), any_stand());
+    const auto a = fratolivem_balanced_parts(
+        b.kind, b.limit, b.gap, b.minimum, in_floats[0].data(), n, out_codes[1].data(), out_codes[1].size(), out_codes[0].data(),
+        out_codes[0].size(), out_codes[2].data(), out_codes[2].size(), out_codes[3].data(), out_codes[3].size(), out_codes[4].data(),
+        out_codes[4].size(), out_doubles[0].data(), out_doubles[0].size(), out_doubles[1].data(), out_doubles[1].size(),
+        out_doubles[2].data(), out_doubles[2].size());
+    Text text("balanced_parts");
+    text.u(b.kind).f(b.limit).f(b.gap).u(b.minimum).list(b.sizes).u(out_codes[1].size()).u(out_codes[0].size());
+    for (int i = 2; i < 5; i++) text.u(out_codes[i].size());
+    for (auto &list : out_doubles) text.u(list.size());
+    const std::string line = text.answered(a.number, a.where, a.place);
+    const bool ok = a.number == 0;
+    bool same = in_floats[0].kept() && kept(out_codes[0], ok, m * m), zero = !ok || out_codes[0].zero_up_to(m * m);
+    for (int i = 1; i < 5; i++) same = same && kept(out_codes[i], ok, n), zero = zero && (i == 1 || !ok || out_codes[i].zero_up_to(n));
+    for (auto &list : out_doubles) same = same && kept(list, ok, n), zero = zero && (!ok || list.zero_up_to(n));
+    expect(same, "other cells were changed", line);
+    expect(zero, "work cells are not 0", line);
+}
+
+} // namespace
+
+int main(int argc, char **argv) {
+    const uint64_t seed = argc > 1 ? std::strtoull(argv[1], nullptr, 0) : 1;
+    const long wanted = argc > 2 ? std::atol(argv[2]) : 20000;
+    std::fprintf(stderr, "hostile: seed %" PRIu64 ", %ld calls\n", seed, wanted);
+    chance.seed(seed), dirt.seed(seed + 1);
+    Draw draw(seed + 2);
+    void (*const tries[])(Draw &) = {try_break_limit, try_greedy, try_balanced, try_parts};
+    while (calls < wanted) tries[below(sizeof tries / sizeof *tries)](draw);
+    // Without this line the reader at the other end of the pipe fails.
+    if (!bad) std::puts("end");
+    if (bad) std::fprintf(stderr, "hostile: %ld calls changed what they should not\n", bad);
+    return bad ? 1 : 0;
+}
