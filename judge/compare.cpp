@@ -4,6 +4,7 @@
 #include <algorithm>
 #include <chrono>
 #include <cinttypes>
+#include <csignal>
 #include <map>
 
 #include "ours.hpp"
@@ -122,7 +123,15 @@ void remember(const Case &c, uint32_t set) {
     }
 }
 
+// The case at hand, told where an assertion of the Rust's ends the program.
+const Case *at_hand = nullptr;
+void tell_case(int) {
+    if (at_hand) std::fprintf(stderr, "the Rust gave up on: %s\n", text_of(*at_hand).c_str());
+    std::_Exit(1);
+}
+
 void compare(const Case &c) {
+    at_hand = &c;
     Count &count = counts[int(c.stage)];
     count.made++;
     const ours::Told us = ours::answer(c);
@@ -191,15 +200,14 @@ void known_differences() {
     std::printf("no items under max-content: the Rust makes %zu line(s) greedily, %zu balanced\n", judge_lines(0, &b, none, made),
                 judge_lines(1, &b, none, made));
     judge_drop(none);
+    // Balanced, the same list meets a debug assertion of the crate's, with which it is built here.
     b.available_kind = FRATOLIVEM_DEFINITE, b.available = 150.0f;
-    for (uint32_t balanced : {0u, 1u}) {
-        judge_list *items = judge_items(holed, 4);
-        const std::size_t lines = judge_lines(balanced, &b, items, made);
-        judge_drop(items);
-        std::printf("50, NaN, 50, 10 at 150: the Rust's %s counts are", balanced ? "balanced" : "greedy");
-        for (std::size_t i = 0; i < lines; i++) std::printf(" %u", made[i]);
-        std::printf("\n");
-    }
+    judge_list *items = judge_items(holed, 4);
+    const std::size_t lines = judge_lines(0, &b, items, made);
+    judge_drop(items);
+    std::printf("50, NaN, 50, 10 at 150: the Rust's greedy counts are");
+    for (std::size_t i = 0; i < lines; i++) std::printf(" %u", made[i]);
+    std::printf("\n");
     // D10: a host of ours cannot say `safe stretch`; code 11 says it to the Rust alone.
     judge_container c{};
     judge_item it{};
@@ -319,6 +327,7 @@ int main(int argc, char **argv) {
         write_sample(seed, cases);
         return 0;
     }
+    for (int signal : {SIGABRT, SIGILL, SIGTRAP}) std::signal(signal, tell_case);
     std::printf("judge: seed %" PRIu64 ", %ld random cases of each stage\n", seed, cases);
     for (int s = 0; s < stage_count; s++) {
         Draw draw(seed + uint64_t(s));
