@@ -1,2 +1,3 @@
 pub mod SizeCalled
 pub mod LineCalled
+pub mod AcrossCalled

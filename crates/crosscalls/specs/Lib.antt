@@ -1,2 +1,3 @@
 pub mod SizeCall
 pub mod LineCall
+pub mod AcrossCall
