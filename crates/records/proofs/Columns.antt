@@ -2,11 +2,11 @@
 -- after i items a column is i fields, then the cells that it had. Assumes nothing.
 use mathlib.Core.Path.{_≡_, refl, sym, _∙_, ap, subst}
 use Prim.Native.Nat.{ℕ, zero, suc, _+_, _-_, _*_, _≤_, _<_}
-use native.Mathlib.Nat.{add-assoc, add-comm, zero-add, suc-add, zero-mul, suc-mul, le-refl}
+use native.Mathlib.Nat.{add-assoc, add-comm, add-zero, zero-add, suc-add, zero-mul, suc-mul, le-refl}
 use native.Mathlib.Omega.{arith}
 use mathlib.Core.List.{List, [], _∷_, _++_, map, map-append, append-assoc, append-nil}
 use lib.ListN.{length, set, take, drop, getD, length-set, length-map, length-append, length-drop, take-append-drop, drop-of-length-le}
-use lib.Seq.{length-take-le, take-suc, drop-cons, set-append-left, set-at, append-snoc, drop-drop}
+use lib.Seq.{length-take-le, take-suc, drop-cons, set-append-left, set-at, append-snoc, drop-drop, take-at}
 use Rattle.records.specs.Items.{stored}
 use Rattle.records.proofs.Stored.{length-stored}
 
@@ -100,6 +100,18 @@ module _ {A X : Type 0} (m : ℕ) (xs : List X) where
   joined-rest : (acc : List A) (fs : List (X → A)) (rest : List A) → joined acc fs ++ rest ≡ acc ++ columns fs rest
   joined-rest acc [] rest = refl
   joined-rest acc (f ∷ fs) rest = joined-rest (acc ++ map f (take m xs)) fs rest ∙ append-assoc acc (map f (take m xs)) (columns fs rest)
+
+  length-joined : (acc : List A) (fs : List (X → A)) → m ≤ length xs → length (joined acc fs) ≡ length acc + length fs * m
+  length-joined acc [] few = sym (ap (λ (n : ℕ). length acc + n) (zero-mul m) ∙ add-zero (length acc))
+  length-joined acc (f ∷ fs) few =
+      length-joined (acc ++ map f (take m xs)) fs few ∙ ap (λ (n : ℕ). n + length fs * m) (length-append acc (map f (take m xs)) ∙ ap (λ (n : ℕ). length acc + n) (length-fields f m few))
+      ∙ add-assoc (length acc) m (length fs * m) ∙ ap (λ (n : ℕ). length acc + n) (add-comm m (length fs * m) ∙ sym (suc-mul (length fs) m))
+
+  -- k columns of m items, whatever stands behind them
+  pub taken-all : (f : X → A) (fs : List (X → A)) (rest : List A) → m ≤ length xs → take (length (f ∷ fs) * m) (joined (map f (take m xs)) fs ++ rest) ≡ joined (map f (take m xs)) fs
+  taken-all f fs rest few =
+      take-at (joined (map f (take m xs)) fs) rest (length (f ∷ fs) * m)
+      (length-joined (map f (take m xs)) fs few ∙ ap (λ (n : ℕ). n + length fs * m) (length-fields f m few) ∙ add-comm m (length fs * m) ∙ sym (suc-mul (length fs) m))
 
   -- ---- the first i items stored, one after another
   abbrev pub laid : (X → List A) → X → List A → ℕ → List A

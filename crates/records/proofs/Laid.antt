@@ -8,7 +8,7 @@ use lib.Ieee.{Float, fin}
 use lib.ListN.{length, take, drop, getD}
 use Rattle.records.specs.declared.Item.{Item}
 use Rattle.records.specs.Items.{numbersIn, codesIn, numbersOf, codesOf}
-use Rattle.records.proofs.Columns.{laid, length-laid, laid-all}
+use Rattle.records.proofs.Columns.{laid, length-laid, laid-all, taken-all}
 
 -- what stands past the end of a list of items
 abbrev nought : Float
@@ -72,3 +72,10 @@ all-numbers m xs l few h = laid-all m xs (λ (x : Item). x .«main_base») numbe
 
 pub all-codes : (m : ℕ) (xs : List Item) (l : List ℕ) → m ≤ length xs → 8 * m ≤ length l → codesLaid m xs l m ≡ codesOf (take m xs) ++ drop (8 * m) l
 all-codes m xs l few h = laid-all m xs (λ (x : Item). x .«has_main_maximum») codeFields blank l few h
+
+-- what `unpack` leaves, read back
+pub taken-numbers : (m : ℕ) (xs : List Item) (rest : List Float) → m ≤ length xs → take (14 * m) (numbersOf (take m xs) ++ rest) ≡ numbersOf (take m xs)
+taken-numbers m xs rest few = taken-all m xs (λ (x : Item). x .«main_base») numberFields rest few
+
+pub taken-codes : (m : ℕ) (xs : List Item) (rest : List ℕ) → m ≤ length xs → take (8 * m) (codesOf (take m xs) ++ rest) ≡ codesOf (take m xs)
+taken-codes m xs rest few = taken-all m xs (λ (x : Item). x .«has_main_maximum») codeFields rest few
