@@ -1,0 +1,3 @@
+pub mod Taken
+pub mod Rooms
+pub mod PassMarks

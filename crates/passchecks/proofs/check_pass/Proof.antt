@@ -1,0 +1,46 @@
+-- Checks 1 and 2, and where they pass the numbers. Assumes nothing.
+use mathlib.Core.Path.{sym, ap, _∙_}
+use lib.ListN.{length}
+use denote.Ref.{now}
+use Rattle.refusal.specs.Domain.{then}
+use Rattle.refusal.specs.Marks.{leastMark, judged}
+use Rattle.refusal.specs.declared.Verdict.{Verdict}
+use Rattle.passchecks.specs.Checks.{passInput}
+use Rattle.passchecks.proofs.Rooms.{roomy-of}
+use borrow.Author.Needs.{needs}
+use Rattle.passchecks.proofs.check_pass.Statement.{statement}
+use Rattle.passchecks.proofs.check_pass.Tie as tie
+use Rattle.passchecks.proofs.check_pass.Reads as reads
+use Rattle.passchecks.proofs.check_pass.Lts as lts
+use Rattle.passchecks.proofs.check_lists.Reads as check-lists-reads
+use Rattle.passchecks.proofs.check_numbers.Reads as check-numbers-reads
+
+check-lists-requires : tie.Need-check-lists-requires
+check-lists-requires c κs = search needs
+
+enum-known-v : tie.Need-enum-known-v
+enum-known-v c = search needs
+
+enum-told : tie.Need-enum-told
+enum-told c = search needs
+
+check-numbers-requires : tie.Need-check-numbers-requires
+check-numbers-requires c κs =
+    let a = c .before .before .before .before .before .args in
+    let r = roomy-of (a .n) (a .c .wrap) (length (now (a .numbers))) (length (now (a .codes))) (a .placed) (a .lines) (a .counts) (a .rounds) (a .free) (a .work) (a .sums) (sym (c .before .before .check-lists .ensures) ∙ c .enum-told .given .1) in
+    record { few = r .few; numbers-long = r .numbers-long; codes-long = r .codes-long }
+
+returns : tie.Need-returns
+returns c =
+    let a = c .before .before .before .before .before .before .args in
+    sym (ap (λ (v : Verdict). then v (judged (leastMark (passInput (a .c) (a .n) (now (a .numbers)) (now (a .codes)))))) (sym (c .before .before .before .check-lists .ensures) ∙ c .before .v .given .1))
+
+returns-2 : tie.Need-returns-2
+returns-2 c =
+    let a = c .before .before .before .before .before .before .args in
+    c .check-numbers .ensures ∙ sym (ap (λ (v : Verdict). then v (judged (leastMark (passInput (a .c) (a .n) (now (a .numbers)) (now (a .codes)))))) (sym (c .before .before .before .check-lists .ensures) ∙ c .before .enum-told .given .1))
+
+pub check-pass-spec : {M : Type 1} → statement M
+check-pass-spec =
+    tie.close
+    (tie.spec check-lists-requires enum-known-v enum-told check-numbers-requires returns returns-2)

@@ -1,0 +1,186 @@
+// Checks 1 to 5 of the whole pass (document 01, "Domain and refusal numbers"): the lengths of its lists, and the numbers that it takes.
+ghost use mathlib.Core.Path.{_≡_};
+ghost use Prim.Native.Nat.{_+_, _*_, _≤_};
+ghost use lib.ListN.{length};
+ghost use Rattle.refusal.specs.Domain.{shape, then};
+ghost use Rattle.refusal.specs.Marks.{leastOf, leastUpTo, leastMark, judged};
+ghost use Rattle.flexcalls.specs.Call.{inputOf};
+ghost use Rattle.crossaxis.specs.Numbers.{acrossNumbersAt};
+ghost use Rattle.container.specs.Columns.{mainLists, crossItems, alignSelf, autoSize};
+ghost use Rattle.container.specs.Container.{balances, crossNumbersOf};
+ghost use Rattle.passchecks.specs.Checks.{workRoom, passRoom, containerNumbers, passInput};
+ghost use Rattle.container.specs.Stages.{Listed};
+use container::Container;
+use container::columns::code_column;
+use container::columns::column;
+use crossaxis::numbers::CrossNumbers;
+use refusal::Kind;
+use refusal::Mark;
+use refusal::Refusal;
+use refusal::Verdict;
+use refusal::least;
+use refusal::mark_code;
+use refusal::optional::mark_given;
+use refusal::shapes::has_room;
+use refusal::shapes::is_alike;
+
+// Whether the lines are balanced, and so need cells to work in.
+pub fn is_balanced(wrap: u32) -> bool
+    ensures { λ r. ⌜ r ≡ balances wrap ⌝ }
+{
+    if wrap == 3 {
+        return true;
+    }
+    wrap == 4
+}
+
+fn has_work_room(n: usize, wrap: u32, work: usize, sums: usize) -> bool
+    requires { ⌜ n ≤ 1024 ⌝ }
+    ensures { λ r. ⌜ r ≡ workRoom n wrap work sums ⌝ }
+{
+    if is_balanced(wrap) {
+        return has_room(n * n + 3 * n, work, 3 * n <= sums);
+    }
+    true
+}
+
+// Checks 1 and 2, from the lengths of the lists. More than 1,024 items are refused whatever the room, so their square is never taken.
+pub fn check_lists(
+    n: usize,
+    wrap: u32,
+    numbers: usize,
+    codes: usize,
+    placed: usize,
+    lines: usize,
+    counts: usize,
+    rounds: usize,
+    free: usize,
+    work: usize,
+    sums: usize,
+) -> Verdict
+    ensures { λ r. ⌜ r ≡ shape n (passRoom n wrap numbers codes placed lines counts rounds free work sums) ⌝ }
+{
+    if 1024 < n {
+        return Verdict::Refused(Refusal::TooManyItems);
+    }
+    let room = has_room(n, free, has_work_room(n, wrap, work, sums));
+    let room = has_room(n, counts, has_room(n, rounds, room));
+    let room = has_room(8 * n, placed, has_room(2 * n, lines, room));
+    let even = is_alike(numbers, 14 * n, is_alike(codes, 8 * n, room));
+    refusal::check_shape(n, even)
+}
+
+// The marks of the main axis's numbers, the container's inner size and gap among them.
+fn mark_main<'a>(inner: f32, gap: f32, n: usize, numbers: &'a [f32], codes: &'a [u32]) -> Mark
+    requires { ⌜ Listed n (now numbers) (now codes) ⌝ }
+    ensures { λ r. ⌜ r .0 ≡ leastMark (inputOf inner gap (mainLists n (now (numbers .entry)) (now (codes .entry)))) ⌝ }
+{
+    flexcalls::checks::mark_numbers(
+        inner,
+        gap,
+        column(numbers, n, 0),
+        column(numbers, n, 1),
+        column(numbers, n, 2),
+        code_column(codes, n, 0),
+        column(numbers, n, 3),
+        column(numbers, n, 4),
+        column(numbers, n, 5),
+        column(numbers, n, 6),
+        column(numbers, n, 7),
+        code_column(codes, n, 1),
+        code_column(codes, n, 2),
+    )
+}
+
+// The container's cross axis, wrap mode and all.
+pub fn cross_numbers(c: Container) -> CrossNumbers
+    ensures { λ r. ⌜ r ≡ crossNumbersOf c ⌝ }
+{
+    CrossNumbers {
+        inner: c.inner_cross,
+        definite: c.has_inner_cross,
+        minimum: c.minimum_cross,
+        floored: c.has_minimum_cross,
+        maximum: c.maximum_cross,
+        capped: c.has_maximum_cross,
+        gap: c.gap_cross,
+        wrap: c.wrap,
+    }
+}
+
+// The marks of the container's other numbers. The limit is taken under every wrap mode.
+fn mark_container(c: Container) -> Mark
+    ensures { λ r. ⌜ r .0 ≡ leastOf (containerNumbers c) 0 ⌝ }
+{
+    let cross = crossaxis::numbers::mark_cross(cross_numbers(c));
+    let limit = mark_given(Kind::Length, c.limit, c.limit_kind == 0, 0);
+    let m = least(mark_code(13, c.align_content, 0), least(limit, cross));
+    let m = least(mark_code(13, c.justify_content, 0), m);
+    let m = least(mark_code(3, c.direction, 0), m);
+    least(mark_code(2, c.limit_kind, 0), m)
+}
+
+// The marks of the items' numbers on the cross axis.
+fn mark_across<'a>(n: usize, numbers: &'a [f32], codes: &'a [u32]) -> Mark
+    requires { ⌜ Listed n (now numbers) (now codes) ⌝ }
+    ensures { λ r. ⌜ r .0 ≡ leastUpTo (λ i. leastOf (acrossNumbersAt (crossItems n (now (numbers .entry)) (now (codes .entry))) (alignSelf n (now (codes .entry))) (autoSize n (now (codes .entry))) i) (i + 1)) n ⌝ }
+{
+    crossaxis::marks::mark_across(
+        column(numbers, n, 8),
+        column(numbers, n, 9),
+        column(numbers, n, 10),
+        code_column(codes, n, 3),
+        column(numbers, n, 11),
+        column(numbers, n, 12),
+        column(numbers, n, 13),
+        code_column(codes, n, 4),
+        code_column(codes, n, 5),
+        code_column(codes, n, 6),
+        code_column(codes, n, 7),
+    )
+}
+
+// Checks 3 to 5.
+fn check_numbers<'a>(c: Container, n: usize, numbers: &'a [f32], codes: &'a [u32]) -> Verdict
+    requires { ⌜ Listed n (now numbers) (now codes) ⌝ }
+    ensures { λ r. ⌜ r ≡ judged (leastMark (passInput c n (now (numbers .entry)) (now (codes .entry)))) ⌝ }
+{
+    let main = mark_main(c.inner_main, c.gap_main, n, numbers, codes);
+    let across = mark_across(n, numbers, codes);
+    refusal::judge(least(main, least(mark_container(c), across)))
+}
+
+// Checks 1 to 5, of the items' lists and of the lengths of the lent ones.
+pub fn check_pass<'a>(
+    c: Container,
+    n: usize,
+    numbers: &'a [f32],
+    codes: &'a [u32],
+    placed: usize,
+    lines: usize,
+    counts: usize,
+    rounds: usize,
+    free: usize,
+    work: usize,
+    sums: usize,
+) -> Verdict
+    ensures { λ r. ⌜ r ≡ then (shape n (passRoom n (c .wrap) (length (now (numbers .entry))) (length (now (codes .entry))) placed lines counts rounds free work sums)) (judged (leastMark (passInput c n (now (numbers .entry)) (now (codes .entry))))) ⌝ }
+{
+    let v = check_lists(
+        n,
+        c.wrap,
+        numbers.len(),
+        codes.len(),
+        placed,
+        lines,
+        counts,
+        rounds,
+        free,
+        work,
+        sums,
+    );
+    match v {
+        Verdict::Refused(why) => Verdict::Refused(why),
+        Verdict::Passed => check_numbers(c, n, numbers, codes),
+    }
+}
