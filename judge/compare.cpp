@@ -33,12 +33,12 @@ double cost_of(const Case &c) {
     double magnitude = 0;
     const auto add = [&](uint32_t bits) {
         const float x = float_of(bits);
-        magnitude += bits ? std::min(1.0, std::fabs(double(x)) / 1e6) : 0.0;
+        magnitude += bits ? std::min(9.0, std::fabs(double(x)) / 10) : 0.0;
     };
     for (std::size_t i = 0; i < 16; i++) add(cell_of(&c.container, i));
     for (const model::Item &it : c.items)
         for (std::size_t i = 0; i < 22; i++) add(cell_of(&it, i));
-    for (float x : c.list) magnitude += std::min(1.0, std::fabs(double(x)) / 1e6);
+    for (float x : c.list) magnitude += std::min(9.0, std::fabs(double(x)) / 10);
     // Margins make short texts but odd examples.
     double margins = 0;
     for (const model::Item &it : c.items)
@@ -219,6 +219,7 @@ void known_differences() {
 
 void all_short() {
     for (std::size_t n = 1; n <= 3; n++) short_flex(n, compare);
+    short_exact(compare);
     for (std::size_t n = 0; n <= 3; n++) short_main(n, compare), short_lines(n, compare);
     short_across(compare);
     for (std::size_t n = 1; n <= 7; n++) short_breaking(n, compare);
@@ -278,6 +279,9 @@ constexpr const char *fixed_cases[] = {
     "across wrap=1 ; cross-edges=30 self=10 auto-size=1 : 20",
     "main justify=4 ; : 1.40129846e-45",
     "lines wrap=1 : -1",
+    // The order of f32 operations shows.
+    "lines wrap=1 align=4 cross=0.078125 has-cross=1 cross-gap=0.09375 : 0.000105742263 0.03125",
+    "main inner=180.015625 gap=42 direction=3 justify=13 ; ; start=69 end=-11 ; : -52 90 9.52835035e-06",
 };
 
 void write_case(const Case &c) {

@@ -217,6 +217,72 @@ void try_parts(Draw &draw) {
     expect(zero, "work cells are not 0", line);
 }
 
+// ---- the whole pass
+
+#ifdef JUDGE_HAS_PASS
+// Records as their cells, so that the last one can end where a page does.
+Lent<uint32_t> in_items(22 * most);
+
+template <class To, class From>
+To recast(const From &from) {
+    static_assert(sizeof(To) == sizeof(From), "the same cells");
+    To to;
+    std::memcpy(&to, &from, sizeof to);
+    return to;
+}
+
+template <class T>
+bool holds(const Lent<T> &list, const std::vector<T> &cells) {
+    return cells.empty() || !std::memcmp(list.data(), cells.data(), cells.size() * sizeof(T));
+}
+
+void try_pass(Draw &draw) {
+    draw.most_items = 5;
+    Case c = draw.next(Stage::pass);
+    if (one_in(12)) c.items.clear();
+    if (one_in(150)) c.items.resize(1020 + below(8), c.items.empty() ? model::Item() : c.items[0]);
+    for (int i = damages(); i > 0; i--) {
+        const bool item = !c.items.empty() && one_in(2);
+        const std::size_t at = below(item ? 22 : 16);
+        if (item) damage_cell(&c.items[below(c.items.size())], at, item_cells[at]);
+        else damage_cell(&c.container, at, container_cells[at]);
+    }
+    const std::size_t n = c.items.size(), m = n > 1024 ? 0 : n;
+    static_assert(sizeof(fratolivem_item) == 22 * 4, "22 cells");
+    std::vector<uint32_t> items;
+    for (const model::Item &it : c.items)
+        for (std::size_t i = 0; i < 22; i++) items.push_back(cell_of(&it, i));
+    const model::PassRoom named = model::PassRoom::named(m);
+    in_items.lend(items, any_stand());
+    out_floats[0].lend(room(named.placed), any_stand()), out_floats[1].lend(room(named.lines), any_stand());
+    out_codes[1].lend(room(n), any_stand()), out_codes[2].lend(room(n), any_stand()), out_ints.lend(room(n), any_stand());
+    const bool none = !c.container.balanced() && one_in(2);
+    out_codes[0].lend(none ? 0 : room(named.work), any_stand()), out_doubles[0].lend(none ? 0 : room(named.sums), any_stand());
+    const auto *records = reinterpret_cast<const fratolivem_item *>(in_items.data());
+    const auto a = fratolivem_pass(recast<fratolivem_container>(c.container), records, n, out_floats[0].data(), out_floats[0].size(),
+                                   out_floats[1].data(), out_floats[1].size(), out_codes[1].data(), out_codes[1].size(), out_codes[2].data(),
+                                   out_codes[2].size(), out_ints.data(), out_ints.size(), out_codes[0].data(), out_codes[0].size(),
+                                   out_doubles[0].data(), out_doubles[0].size());
+    Text text("pass");
+    text.cells(&c.container, 16, container_cells).items(c.items).u(out_floats[0].size()).u(out_floats[1].size()).u(out_codes[1].size());
+    text.u(out_codes[2].size()).u(out_ints.size()).u(out_codes[0].size()).u(out_doubles[0].size());
+    const std::string line = text.answered(a.number, a.where, a.place);
+    const bool ok = a.number == 0, balanced = ok && c.container.balanced();
+    expect(in_items.kept() && kept(out_floats[0], ok, 8 * n) && kept(out_floats[1], ok, 2 * n) && kept(out_codes[1], ok, n) &&
+               kept(out_codes[2], ok, n) && kept(out_ints, ok, n) && kept(out_codes[0], balanced, named.work) &&
+               kept(out_doubles[0], balanced, named.sums),
+           "other cells were changed", line);
+    expect(!balanced || (out_codes[0].zero_up_to(named.work) && out_doubles[0].zero_up_to(named.sums)), "work cells are not 0", line);
+    expect(ok || (a.lines == 0 && a.rounds == 0 && model::bits(a.inner_cross) == 0), "a refusal has values", line);
+    if (!ok) return;
+    const model::Passed p = model::pass(c.container, c.items, model::PassRoom::named(n));
+    expect(p.refusal.number == 0 && a.lines == p.lines_made && a.rounds == p.rounds_made &&
+               model::bits(a.inner_cross) == model::bits(p.inner_cross) && holds(out_floats[0], p.placed) && holds(out_floats[1], p.lines) &&
+               holds(out_codes[1], p.counts) && holds(out_codes[2], p.rounds) && holds(out_ints, p.free),
+           "the answer is not the model's", line);
+}
+#endif
+
 } // namespace
 
 int main(int argc, char **argv) {
@@ -225,7 +291,16 @@ int main(int argc, char **argv) {
     std::fprintf(stderr, "hostile: seed %" PRIu64 ", %ld calls\n", seed, wanted);
     chance.seed(seed), dirt.seed(seed + 1);
     Draw draw(seed + 2);
-    void (*const tries[])(Draw &) = {try_break_limit, try_greedy, try_balanced, try_parts};
+    void (*const tries[])(Draw &) = {
+        try_break_limit,
+        try_greedy,
+        try_balanced,
+        try_parts,
+#ifdef JUDGE_HAS_PASS
+        try_pass,
+        try_pass,
+#endif
+    };
     while (calls < wanted) tries[below(sizeof tries / sizeof *tries)](draw);
     // Without this line the reader at the other end of the pipe fails.
     if (!bad) std::puts("end");

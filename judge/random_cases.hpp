@@ -273,6 +273,21 @@ inline void short_flex(std::size_t n, const Each &each) {
     });
 }
 
+// Two items that shrink to their maxima in a container that is then exactly full.
+inline void short_exact(const Each &each) {
+    all_choices({16, 16, 16, 16}, [&](const std::vector<uint32_t> &d) {
+        if (d[1] >= d[0] || d[3] >= d[2]) return;
+        Case c{Stage::flex, {}, {}, {}, {}};
+        c.container.inner_main = float(d[1] + d[3]);
+        for (std::size_t i = 0; i < 2; i++) {
+            model::Item it;
+            it.main_base = float(d[2 * i]), it.main_maximum = float(d[2 * i + 1]), it.has_main_maximum = 1, it.shrink = 1.0f;
+            c.items.push_back(it);
+        }
+        each(c);
+    });
+}
+
 inline void short_main(std::size_t n, const Each &each) {
     const std::array<float, 3> targets{0, 1, 2.5f}, inners{0, 3, 10};
     std::vector<uint32_t> radices{3, 2, 14, 2};

@@ -191,6 +191,29 @@ def cross_item(measured, minimum, maximum, has_maximum, edges, start, end, auto_
     return plain + given(has_maximum, maximum) + unless_auto(auto_start, start) + unless_auto(auto_end, end)
 
 
+def items_across(container, lists, codes, room):
+    n = len(lists[0])
+    verdict = shape([len(each) for each in lists + codes], n, room >= n)
+    if verdict != ACCEPTED:
+        return verdict
+    items = [cross_item(*item) for item in zip(*lists)]
+    if codes:
+        items = [taken + [(code(10), align), (code(1), auto)] for taken, align, auto in zip(items, *codes)]
+    return numbers(container, items)
+
+
+def size_line(*arguments):
+    """The size of one line turns on no gap, which the container's numbers have all the same."""
+    taken = [number for i, number in enumerate(arguments[:8]) if i != 6]
+    inner, has_inner, minimum, has_minimum, maximum, has_maximum, wrap = taken
+    bounds = given(has_inner, inner) + given(has_minimum, minimum) + given(has_maximum, maximum)
+    return items_across(bounds + [(code(4), wrap)], arguments[8:17], (), MOST_ITEMS)
+
+
+def place_across(line, is_reversed, *rest):
+    return items_across([(WORKED, line), (code(1), is_reversed)], rest[:9], rest[9:11], min(rest[11:15]))
+
+
 def one_pass(*arguments):
     """The container's 16 cells, the items' 22 each, one after another, and the cells of the seven lent lists."""
     container, (cells, placed, lines, counts, rounds, free, work, sums) = arguments[:16], arguments[16:]
@@ -224,7 +247,9 @@ CALLS = {
     "flex_line": flex_line,
     "flex_lines": flex_lines,
     "place_main": place_main,
+    "size_line": size_line,
     "place_lines": place_lines,
+    "place_across": place_across,
     "pass": one_pass,
 }
 
