@@ -10,7 +10,7 @@ use lib.Seq.{length-take-le, drop-drop, take-at, drop-at, take-append-le, drop-a
 use lib.Ieee.{Float}
 use borrow.Rule.Slice.PartMut.{putMid, postOf, same-len-mid, mid-len, take-put, drop-put}
 use Rattle.container.specs.Columns.{column}
-use Rattle.container.specs.Stages.{Inside, Stored}
+use Rattle.container.specs.Stages.{Inside, Stored, FourStored}
 
 -- ---- list k
 
@@ -74,3 +74,24 @@ module _ (n k : ℕ) (old part : List Float) (h : k * n + n ≤ length old) (l :
       other j (inl g) =
           let b = before n j k g in
           sym (front n (j * n) (k * n) new b (omega (arith, long))) ∙ ap (λ (y : List Float). take n (drop (j * n) y)) (take-put (k * n) (k * n + n - k * n) old part (omega arith)) ∙ front n (j * n) (k * n) old b (omega arith)
+
+-- ---- four lists stored, one after another
+
+pub four-of : (n k : ℕ) (a b c d p q r s t : List Float) → Stored n k a p q → Stored n (k + 1) b q r → Stored n (k + 2) c r s → Stored n (k + 3) d s t → FourStored n k a b c d p t
+four-of n k a b c d p q r s t w x y z = record {
+  first = z .others k (inl (omega arith)) ∙ y .others k (inl (omega arith)) ∙ x .others k (inl (omega arith)) ∙ w .here;
+  second = z .others (k + 1) (inl (omega arith)) ∙ y .others (k + 1) (inl (omega arith)) ∙ x .here;
+  third = z .others (k + 2) (inl (omega arith)) ∙ y .here;
+  fourth = z .here;
+  others = λ j g. z .others j (far 3 j g (omega arith)) ∙ y .others j (far 2 j g (omega arith)) ∙ x .others j (far 1 j g (omega arith)) ∙ w .others j (near j g);
+  past = λ m g. z .past m (omega arith) ∙ y .past m (omega arith) ∙ x .past m (omega arith) ∙ w .past m (omega arith);
+  long = z .long ∙ y .long ∙ x .long ∙ w .long;
+}
+  where
+    far : (i j : ℕ) → (j < k) ⊎ (k + 4 ≤ j) → i ≤ 3 → (j < k + i) ⊎ (k + i < j)
+    far i j (inl g) h = inl (omega arith)
+    far i j (inr g) h = inr (omega arith)
+
+    near : (j : ℕ) → (j < k) ⊎ (k + 4 ≤ j) → (j < k) ⊎ (k < j)
+    near j (inl g) = inl g
+    near j (inr g) = inr (omega arith)

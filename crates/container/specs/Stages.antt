@@ -27,3 +27,13 @@ pub record Stored (n k : ℕ) (part old new : List Float) : Type 0 where
   pub others : (j : ℕ) → (j < k) ⊎ (k < j) → column n j new ≡ column n j old
   pub past : (m : ℕ) → k < m → drop (m * n) new ≡ drop (m * n) old
   pub long : length new ≡ length old
+
+-- the same of four lists, k and those after it
+pub record FourStored (n k : ℕ) (a b c d old new : List Float) : Type 0 where
+  pub first : column n k new ≡ a
+  pub second : column n (k + 1) new ≡ b
+  pub third : column n (k + 2) new ≡ c
+  pub fourth : column n (k + 3) new ≡ d
+  pub others : (j : ℕ) → (j < k) ⊎ (k + 4 ≤ j) → column n j new ≡ column n j old
+  pub past : (m : ℕ) → k + 4 ≤ m → drop (m * n) new ≡ drop (m * n) old
+  pub long : length new ≡ length old

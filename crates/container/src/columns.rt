@@ -1,8 +1,9 @@
 // Lists of n cells one after another in one list: list k starts at cell k * n.
 ghost use mathlib.Core.Path.{_≡_};
+ghost use Prim.Native.Nat.{_+_};
 ghost use lib.ListN.{length};
 ghost use Rattle.container.specs.Columns.{column};
-ghost use Rattle.container.specs.Stages.{Inside, Stored};
+ghost use Rattle.container.specs.Stages.{Inside, Stored, FourStored};
 
 // List k of the items' numbers. No entry point: it is there.
 pub fn column<'a>(xs: &'a [f32], n: usize, k: usize) -> &'a [f32]
@@ -43,4 +44,23 @@ pub fn store_column(xs: &[f32], n: usize, k: usize, cells: &mut [f32])
     let from = k * n;
     let to = from + n;
     copy(xs, &mut cells[from..to]);
+}
+
+// Writes four lists, k and those after it. No entry point: they are there.
+pub fn store_four<'a>(
+    a: &'a [f32],
+    b: &'a [f32],
+    c: &'a [f32],
+    d: &'a [f32],
+    n: usize,
+    k: usize,
+    cells: &mut [f32],
+)
+    requires { ⌜ Inside n (k + 3) (now cells) × (length (now a) ≡ n) × (length (now b) ≡ n) × (length (now c) ≡ n) × (length (now d) ≡ n) ⌝ }
+    ensures { λ _. ⌜ FourStored n k (now (a .entry)) (now (b .entry)) (now (c .entry)) (now (d .entry)) (now (cells .entry)) (now (cells .exit)) ⌝ }
+{
+    store_column(a, n, k, cells);
+    store_column(b, n, k + 1, cells);
+    store_column(c, n, k + 2, cells);
+    store_column(d, n, k + 3, cells);
 }
