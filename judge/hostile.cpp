@@ -99,9 +99,10 @@ int damages() { return std::array{0, 0, 1, 1, 1, 2, 3, 8}[below(8)]; }
 
 std::size_t any_count(std::size_t small) { return one_in(150) ? 1020 + below(8) : small; }
 
-// Cells to lend for a list that needs `named`: those, more, or too few.
+// Cells to lend for a list that needs `named`: those, more, or too few. Calls with more lists are seldomer wrong about each.
+uint64_t room_odds = 24;
 std::size_t room(std::size_t named) {
-    switch (below(24)) {
+    switch (room_odds ? below(room_odds) : 99) {
     case 0: return named ? named - 1 : 0;
     case 1: return named ? below(named) : 0;
     case 2: return named + 1 + below(20);
@@ -149,7 +150,7 @@ struct BreakingCall {
 };
 
 BreakingCall breaking_call(Draw &draw) {
-    draw.most_items = 8;
+    room_odds = 24, draw.most_items = 8;
     const Case c = draw.next(Stage::balanced);
     BreakingCall b{c.breaking.available_kind, c.breaking.available, c.breaking.gap, c.breaking.line_count, c.list};
     if (one_in(10)) b.sizes.clear();
@@ -217,6 +218,50 @@ void try_parts(Draw &draw) {
     expect(zero, "work cells are not 0", line);
 }
 
+// ---- calls on lists by item
+
+// Lists of one length, mostly; seldom one of them is cut, longer by one, or all are near the most items.
+struct Columns {
+    std::vector<std::vector<float>> floats;
+    std::vector<std::vector<uint32_t>> codes;
+
+    void stretch_to(std::size_t n) {
+        for (auto &list : floats) list.resize(n, list.empty() ? 0.0f : list[0]);
+        for (auto &list : codes) list.resize(n, list.empty() ? 0 : list[0]);
+    }
+    void damage() {
+        if (one_in(10)) stretch_to(0);
+        if (one_in(150)) stretch_to(1020 + below(8));
+        for (int i = damages(); i > 0; i--) {
+            const std::size_t at = below(floats.size() + codes.size());
+            if (at < floats.size()) {
+                if (!floats[at].empty()) floats[at][below(floats[at].size())] = any_float();
+            } else if (auto &list = codes[at - floats.size()]; !list.empty()) {
+                list[below(list.size())] = any_code();
+            }
+        }
+        if (!one_in(20)) return;
+        const std::size_t at = below(floats.size() + codes.size());
+        const auto change = [](auto &list) {
+            if (one_in(2) || list.empty()) list.push_back({});
+            else list.pop_back();
+        };
+        if (at < floats.size()) change(floats[at]);
+        else change(codes[at - floats.size()]);
+    }
+    void lend() {
+        for (std::size_t i = 0; i < floats.size(); i++) in_floats[i].lend(floats[i], any_stand());
+        for (std::size_t i = 0; i < codes.size(); i++) in_codes[i].lend(codes[i], any_stand());
+    }
+    bool kept() const {
+        bool all = true;
+        for (std::size_t i = 0; i < floats.size(); i++) all = all && in_floats[i].kept();
+        for (std::size_t i = 0; i < codes.size(); i++) all = all && in_codes[i].kept();
+        return all;
+    }
+    std::size_t n() const { return floats[0].size(); }
+};
+
 // ---- the whole pass
 
 #ifdef JUDGE_HAS_PASS
@@ -236,17 +281,7 @@ bool holds(const Lent<T> &list, const std::vector<T> &cells) {
     return cells.empty() || !std::memcmp(list.data(), cells.data(), cells.size() * sizeof(T));
 }
 
-void try_pass(Draw &draw) {
-    draw.most_items = 5;
-    Case c = draw.next(Stage::pass);
-    if (one_in(12)) c.items.clear();
-    if (one_in(150)) c.items.resize(1020 + below(8), c.items.empty() ? model::Item() : c.items[0]);
-    for (int i = damages(); i > 0; i--) {
-        const bool item = !c.items.empty() && one_in(2);
-        const std::size_t at = below(item ? 22 : 16);
-        if (item) damage_cell(&c.items[below(c.items.size())], at, item_cells[at]);
-        else damage_cell(&c.container, at, container_cells[at]);
-    }
+void run_pass(const Case &c) {
     const std::size_t n = c.items.size(), m = n > 1024 ? 0 : n;
     static_assert(sizeof(fratolivem_item) == 22 * 4, "22 cells");
     std::vector<uint32_t> items;
@@ -281,6 +316,48 @@ void try_pass(Draw &draw) {
                holds(out_codes[1], p.counts) && holds(out_codes[2], p.rounds) && holds(out_ints, p.free),
            "the answer is not the model's", line);
 }
+
+void try_pass(Draw &draw) {
+    room_odds = 90;
+    draw.most_items = 5;
+    Case c = draw.next(Stage::pass);
+    if (one_in(12)) c.items.clear();
+    if (one_in(150)) c.items.resize(1020 + below(8), c.items.empty() ? model::Item() : c.items[0]);
+    for (int i = damages(); i > 0; i--) {
+        const bool item = !c.items.empty() && one_in(2);
+        const std::size_t at = below(item ? 22 : 16);
+        if (item) damage_cell(&c.items[below(c.items.size())], at, item_cells[at]);
+        else damage_cell(&c.container, at, container_cells[at]);
+    }
+    run_pass(c);
+}
+
+// Every cell of a container and of two items in turn with every odd number.
+void every_cell_of_a_pass() {
+    constexpr uint32_t odd[] = {0x7fc00000, 0xff800001, 0x7f800000, 0xff800000, 0x7f7fffff, 0x80000000, 0x00000001, 0x807fffff, 0x00800000,
+                                0x48800000, 0x48800001, 0xc8800000, 0xc8800001, 0x48000000, 0x48000001, 0xc8000000, 0xc8000001, 0x44800000,
+                                0x44800001, 0xbf800000, 0x3c800000, 0x3c800001, 0x3c000000, 0, 1, 2, 3, 4, 5, 9, 10, 11, 13, 14, 0xffffffff};
+    room_odds = 0;
+    Case plain{Stage::pass, {}, {}, {}, {}};
+    plain.container.inner_main = 300, plain.container.wrap = 3, plain.container.limit_kind = 0, plain.container.limit = 150;
+    plain.items.resize(2);
+    for (model::Item &it : plain.items) it.main_base = 100, it.grow = 1, it.cross_measured = 10;
+    for (uint32_t wrap = 0; wrap <= 4; wrap += 2)
+        for (uint32_t bits : odd) {
+            plain.container.wrap = wrap;
+            for (std::size_t i = 0; i < 16; i++) {
+                Case c = plain;
+                set_cell(&c.container, i, bits);
+                run_pass(c);
+            }
+            for (std::size_t i = 0; i < 44; i++) {
+                Case c = plain;
+                c.items[i / 22].has_main_maximum = c.items[i / 22].has_cross_maximum = 1, c.items[i / 22].main_maximum = c.items[i / 22].cross_maximum = 500;
+                set_cell(&c.items[i / 22], i % 22, bits);
+                run_pass(c);
+            }
+        }
+}
 #endif
 
 } // namespace
@@ -301,6 +378,9 @@ int main(int argc, char **argv) {
         try_pass,
 #endif
     };
+#ifdef JUDGE_HAS_PASS
+    every_cell_of_a_pass();
+#endif
     while (calls < wanted) tries[below(sizeof tries / sizeof *tries)](draw);
     // Without this line the reader at the other end of the pipe fails.
     if (!bad) std::puts("end");

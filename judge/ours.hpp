@@ -86,10 +86,35 @@ inline Told placed_across(const Case &c) {
     return t;
 }
 
+#ifdef JUDGE_HAS_PASS
+// The library's pass, in the model's terms.
+inline model::Passed pass_of(const Case &c) {
+    static std::vector<uint32_t> work;
+    static std::vector<double> sums;
+    const std::size_t n = c.items.size();
+    const model::PassRoom room = model::PassRoom::named(n);
+    model::Passed p;
+    p.placed.resize(room.placed), p.lines.resize(room.lines), p.counts.resize(n), p.rounds.resize(n), p.free.resize(n);
+    if (work.size() < room.work) work.resize(room.work), sums.resize(room.sums);
+    static_assert(sizeof(fratolivem_item) == sizeof(model::Item) && sizeof(fratolivem_container) == sizeof(model::Container), "the same cells");
+    fratolivem_container container;
+    std::vector<fratolivem_item> items(n);
+    std::memcpy(&container, &c.container, sizeof container);
+    if (n) std::memcpy(items.data(), c.items.data(), n * sizeof(fratolivem_item));
+    const auto a = fratolivem_pass(container, items.data(), n, p.placed.data(), room.placed, p.lines.data(), room.lines, p.counts.data(), n,
+                                   p.rounds.data(), n, p.free.data(), n, work.data(), work.size(), sums.data(), sums.size());
+    p.refusal = {a.number, a.where, a.place};
+    p.lines_made = a.lines, p.rounds_made = a.rounds, p.inner_cross = a.inner_cross;
+    return p;
+}
+#else
+inline model::Passed pass_of(const Case &c) { return model::pass(c.container, c.items, model::PassRoom::named(c.items.size())); }
+#endif
+
 // The numbers of the pass in the judge's order: inner cross size, line sizes and offsets, then the eight lists by item.
 inline Told passed(const Case &c) {
     const std::size_t n = c.items.size();
-    const auto p = model::pass(c.container, c.items, model::PassRoom::named(n));
+    const auto p = pass_of(c);
     if (p.refusal.number) return {p.refusal.number, {}};
     Told t{0, {{p.inner_cross}, {}}};
     const auto lines = p.lines.begin();
