@@ -1,0 +1,4 @@
+pub mod Parted
+pub mod Spacing
+pub mod Sizing
+pub mod Placing
