@@ -84,6 +84,19 @@ unfolding total
 valid-total limit gap xs [] v = sym (ap length v)
 valid-total limit gap xs (c ∷ d) v = omega (arith, valid-total limit gap (drop c xs) d (v .1), length-drop c xs, v .0 .enough)
 
+-- ---- the answer list
+
+-- the counts that are read back, as many as there are lines
+pub read-back : (n : ℕ) (lines before : List ℕ) → take (length lines) (written n lines before) ≡ lines
+read-back n lines before = take-at lines (replicate (n - length lines) 0 ++ drop n before) (length lines) refl
+
+counts-listed : (mode : Mode) (n : ℕ) (lines : List ℕ) (b : Lent) → listed mode n lines b .counts ≡ written n lines (b .counts)
+counts-listed Single n lines b = refl
+counts-listed Greedy n lines b = refl
+counts-listed Balanced n lines b = refl
+
+-- ---- all modes
+
 module _ (limit : AvailableSpace) (gap : Float) (minimum : ℕ) (sizes : List Float) where
   abbrev L : Limit
   L = limitOf limit
@@ -101,6 +114,16 @@ module _ (limit : AvailableSpace) (gap : Float) (minimum : ℕ) (sizes : List Fl
       divides-of (length sizes) lines (valid-positive L G (map floored (units sizes)) lines (b .valid))
       (valid-total L G (map floored (units sizes)) lines (b .valid) ∙ length-map (units sizes) floored ∙ length-map sizes sixtyFourths)
 
+  -- and so do the counts that a call leaves, read back as many as it answers
+  pub wrapped-counts : (mode : Mode) (b : Lent) (r : ℕ) (a : Lent) → (w : Wrapped mode limit gap minimum sizes b r a) → take r (a .counts) ≡ w .lines
+  wrapped-counts mode b r a w =
+      ap (λ (k : ℕ). take k (a .counts)) (w .number)
+      ∙ ap (take (length (w .lines))) (ap (λ (l : Lent). l .counts) (w .cells) ∙ counts-listed mode (length sizes) (w .lines) b)
+      ∙ read-back (length sizes) (w .lines) (b .counts)
+
+  pub wrapped-divides : (mode : Mode) (b : Lent) (r : ℕ) (a : Lent) → Wrapped mode limit gap minimum sizes b r a → Divides (length sizes) (take r (a .counts))
+  wrapped-divides mode b r a w = subst (Divides (length sizes)) (sym (wrapped-counts mode b r a w)) (lines-divide mode (w .lines) (w .lines-are))
+
   -- ANY TWO LINES OF A MODE ARE ONE
   pub lines-one : (mode : Mode) (c d : List ℕ) → Lines mode limit gap minimum sizes c → Lines mode limit gap minimum sizes d → c ≡ d
   lines-one Single c d p q = p ∙ sym q
@@ -113,11 +136,7 @@ module _ (limit : AvailableSpace) (gap : Float) (minimum : ℕ) (sizes : List Fl
       let e = lines-one mode (p .lines) (q .lines) (p .lines-are) (q .lines-are) in
       (p .number ∙ ap length e ∙ sym (q .number), p .cells ∙ ap (λ (l : List ℕ). listed mode (length sizes) l b) e ∙ sym (q .cells))
 
--- ---- the answer list
-
--- the counts that are read back, as many as there are lines
-pub read-back : (n : ℕ) (lines before : List ℕ) → take (length lines) (written n lines before) ≡ lines
-read-back n lines before = take-at lines (replicate (n - length lines) 0 ++ drop n before) (length lines) refl
+-- ---- as numbers of the program
 
 -- of 1,024 items each count is in a u32, and so is the number of lines
 pub count-fits : (n : ℕ) (lines : List ℕ) → n ≤ 1024 → Divides n lines → (j : ℕ) → Fits w32 (getD lines j 0)
