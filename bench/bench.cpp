@@ -1,9 +1,5 @@
 // Times fratolivem_balanced and fratolivem_greedy beside the Rust's own text, in one process. A benchmark, not a test.
-//
-// A shared machine drifts by a factor of two within a second. So the lists go by in small chunks, every side is timed on a chunk
-// before the next, all chunks are repeated many times, and of each chunk and side the least time counts.
 #include <algorithm>
-#include <chrono>
 #include <cmath>
 #include <cstdio>
 #include <cstdlib>
@@ -15,12 +11,12 @@
 
 #include "../include/fratolivem.h"
 #include "../judge/judge.h"
+#include "measure.hpp"
 
 namespace {
 
 constexpr float gap = 8.0f;
 constexpr std::size_t lines_wanted = 12;
-constexpr std::size_t chunk = 4;
 
 std::mt19937_64 random_bits(20260115);
 
@@ -89,27 +85,6 @@ void clear(Room &room) {
     std::memset(room.work.data(), 0, room.work.size() * sizeof(uint32_t));
     std::memset(room.sums.data(), 0, room.sums.size() * sizeof(double));
     asm volatile("" : : "r"(room.work.data()), "r"(room.sums.data()) : "memory");
-}
-
-using Side = std::function<void(std::size_t)>;
-
-// For each side, nanoseconds for one list: the least time of each chunk, summed.
-std::vector<double> measure(std::size_t lists, int repetitions, const std::vector<Side> &sides) {
-    std::vector<double> sum(sides.size(), 0.0);
-    for (std::size_t from = 0; from < lists; from += chunk) {
-        const std::size_t to = std::min(lists, from + chunk);
-        std::vector<double> least(sides.size(), INFINITY);
-        for (int r = 0; r < repetitions; r++)
-            for (std::size_t s = 0; s < sides.size(); s++) {
-                const auto before = std::chrono::steady_clock::now();
-                for (std::size_t i = from; i < to; i++) sides[s](i);
-                const std::chrono::duration<double, std::nano> took = std::chrono::steady_clock::now() - before;
-                least[s] = std::min(least[s], took.count());
-            }
-        for (std::size_t s = 0; s < sides.size(); s++) sum[s] += least[s];
-    }
-    for (double &s : sum) s /= double(lists);
-    return sum;
 }
 
 // The same list with one size so large that the sum is refused last of all: what is left of the call is its checks.

@@ -217,7 +217,53 @@ void known_differences() {
     std::printf("safe stretch in a line of 20: the Rust's size is %g\n", double(placed[0]));
 }
 
+// Document 01's examples, and for each listed difference one that was found by hand or by search.
+constexpr const char *fixed_cases[] = {
+    "balanced known=1 main=1 row=1 available=100 gap=10 least-lines=1 : 70 0 20",
+    "balanced known=1 main=1 row=1 available=100 least-lines=1 : 150 0 30",
+    "balanced known=1 main=1 row=1 available=100 least-lines=2 : 70 0 0",
+    "balanced known=1 main=1 row=1 available=100 least-lines=2 : 10 10 10",
+    "balanced known=1 main=1 row=1 available=150 least-lines=1 : 50 50 50 10",
+    "greedy known=1 main=1 row=1 available=150 : 50 50 50 10",
+    "balanced known=1 main=1 row=1 available=100 gap=10 least-lines=1 : 45 45",
+    "balanced known=1 main=1 row=1 kind=2 least-lines=9 : 5",
+    "balanced known=1 main=1 row=1 kind=2 : 5 6",
+    "balanced known=1 main=1 row=1 available=90 gap=10 least-lines=1 : 30 5 40 20 0 0 35",
+    "flex inner=300 ; base=100 grow=1 ; base=100 grow=3",
+    "flex inner=300 ; base=100 grow=1 ; base=100 grow=3 max=120 has-max=1",
+    "flex inner=300 ; base=100 grow=0.5",
+    "flex inner=150 ; base=100 shrink=1 ; base=100 shrink=1",
+    "main inner=150 gap=5 justify=11 ; ; ; : 30 30 20",
+    "lines wrap=1 align=10 cross=100 has-cross=1 cross-gap=10 : 20 30",
+    "flex inner=13 ; base=14 max=7 has-max=1 shrink=1 ; base=12 max=6 has-max=1 shrink=1",
+    "flex inner=300 ; min=100 shrink=1 ; grow=0.5",
+    "flex inner=300 gap=20 ; base=100 grow=0.25 shrink=1 ; base=100 shrink=1",
+    "flex inner=150 gap=20 ; base=100 shrink=0.25 ; base=100",
+    "flex inner=300 gap=20 ; base=100 grow=0.125 shrink=1 ; base=100 shrink=1",
+    "flex inner=4 gap=3 ; ; grow=0.5",
+    "flex inner=0.015625 ; grow=1.00002e-40",
+    "flex inner=0.390625 ; base=0.015625 shrink=4.9521347e-08 start=0.0625 ; base=1 max=0.046875 shrink=0.166666672 start=0.078125 has-max=1 ; "
+    "base=0.5 shrink=3 ; min=0.078125 end=0.109375",
+    "flex inner=150 ; base=100 max=50 has-max=1 shrink=1 ; base=100 shrink=1",
+    "flex inner=50 ; base=100 edges=80 shrink=1",
+    "flex inner=100 ; base=10 edges=20 grow=1 ; base=10 grow=1",
+    "across wrap=1 ; cross-edges=30 self=10 auto-size=1 : 20",
+    "main justify=4 ; : 1.40129846e-45",
+    "lines wrap=1 : -1",
+    // The order of f32 operations shows.
+    "lines wrap=1 align=4 cross=0.078125 has-cross=1 cross-gap=0.09375 : 0.000105742263 0.03125",
+    "main inner=180.015625 gap=42 direction=3 justify=13 ; ; start=69 end=-11 ; : -52 90 9.52835035e-06",
+};
+
+Case fixed_case(const char *text) {
+    Case c{};
+    Answer none;
+    if (!read_case(std::string(text) + " =>", c, none)) std::exit(2);
+    return c;
+}
+
 void all_short() {
+    for (const char *text : fixed_cases) compare(fixed_case(text));
     for (std::size_t n = 1; n <= 3; n++) short_flex(n, compare);
     short_exact(compare);
     for (std::size_t n = 0; n <= 3; n++) short_main(n, compare), short_lines(n, compare);
@@ -249,41 +295,6 @@ Case bare(Case c) {
     return c;
 }
 
-// Document 01's examples, and for each listed difference one that was found by hand or by search.
-constexpr const char *fixed_cases[] = {
-    "balanced known=1 main=1 row=1 available=100 gap=10 least-lines=1 : 70 0 20",
-    "balanced known=1 main=1 row=1 available=100 least-lines=1 : 150 0 30",
-    "balanced known=1 main=1 row=1 available=100 least-lines=2 : 70 0 0",
-    "balanced known=1 main=1 row=1 available=100 least-lines=2 : 10 10 10",
-    "balanced known=1 main=1 row=1 available=150 least-lines=1 : 50 50 50 10",
-    "greedy known=1 main=1 row=1 available=150 : 50 50 50 10",
-    "balanced known=1 main=1 row=1 available=100 gap=10 least-lines=1 : 45 45",
-    "balanced known=1 main=1 row=1 kind=2 least-lines=9 : 5",
-    "balanced known=1 main=1 row=1 kind=2 : 5 6",
-    "balanced known=1 main=1 row=1 available=90 gap=10 least-lines=1 : 30 5 40 20 0 0 35",
-    "flex inner=300 ; base=100 grow=1 ; base=100 grow=3",
-    "flex inner=300 ; base=100 grow=1 ; base=100 grow=3 max=120 has-max=1",
-    "flex inner=300 ; base=100 grow=0.5",
-    "flex inner=150 ; base=100 shrink=1 ; base=100 shrink=1",
-    "main inner=150 gap=5 justify=11 ; ; ; : 30 30 20",
-    "lines wrap=1 align=10 cross=100 has-cross=1 cross-gap=10 : 20 30",
-    "flex inner=13 ; base=14 max=7 has-max=1 shrink=1 ; base=12 max=6 has-max=1 shrink=1",
-    "flex inner=300 ; min=100 shrink=1 ; grow=0.5",
-    "flex inner=300 gap=20 ; base=100 grow=0.25 shrink=1 ; base=100 shrink=1",
-    "flex inner=150 gap=20 ; base=100 shrink=0.25 ; base=100",
-    "flex inner=300 gap=20 ; base=100 grow=0.125 shrink=1 ; base=100 shrink=1",
-    "flex inner=0.015625 ; grow=1.00002e-40",
-    "flex inner=150 ; base=100 max=50 has-max=1 shrink=1 ; base=100 shrink=1",
-    "flex inner=50 ; base=100 edges=80 shrink=1",
-    "flex inner=100 ; base=10 edges=20 grow=1 ; base=10 grow=1",
-    "across wrap=1 ; cross-edges=30 self=10 auto-size=1 : 20",
-    "main justify=4 ; : 1.40129846e-45",
-    "lines wrap=1 : -1",
-    // The order of f32 operations shows.
-    "lines wrap=1 align=4 cross=0.078125 has-cross=1 cross-gap=0.09375 : 0.000105742263 0.03125",
-    "main inner=180.015625 gap=42 direction=3 justify=13 ; ; start=69 end=-11 ; : -52 90 9.52835035e-06",
-};
-
 void write_case(const Case &c) {
     const ours::Told us = ours::answer(c);
     const Answer rust = theirs::answer(c);
@@ -297,10 +308,7 @@ void write_sample(uint64_t seed, long cases) {
     std::printf("# stage container ; item ; .. : list => numbers / counts # the listed differences that it shows, if any\n");
     constexpr long wanted[stage_count] = {120, 250, 500, 240, 100, 260, 190, 120};
     for (const char *text : fixed_cases) {
-        Case c{};
-        Answer none;
-        if (!read_case(std::string(text) + " =>", c, none)) std::exit(2);
-        write_case(c);
+        write_case(fixed_case(text));
     }
     Draw draw(seed);
     for (int s = 0; s < stage_count; s++) {

@@ -262,6 +262,105 @@ struct Columns {
     std::size_t n() const { return floats[0].size(); }
 };
 
+// The lists of the flexing calls in their order: which are floats, and which codes.
+constexpr const char *flex_order = "fffcfffffcc", *cross_order = "fffcfffcccc";
+
+[[maybe_unused]] Columns flex_columns(Draw &draw) {
+    room_odds = 40, draw.most_items = 5;
+    const Case c = draw.next(Stage::flex);
+    Columns l{std::vector<std::vector<float>>(8), std::vector<std::vector<uint32_t>>(3)};
+    for (const model::Item &it : c.items) {
+        const float f[] = {it.main_base, it.main_minimum, it.main_maximum, it.main_edges, it.grow, it.shrink, it.main_start, it.main_end};
+        const uint32_t u[] = {it.has_main_maximum, it.auto_main_start, it.auto_main_end};
+        for (std::size_t i = 0; i < 8; i++) l.floats[i].push_back(f[i]);
+        for (std::size_t i = 0; i < 3; i++) l.codes[i].push_back(u[i]);
+    }
+    return l;
+}
+
+[[maybe_unused]] model::FlexLists flex_lists(const Columns &l) {
+    return {l.floats[0], l.floats[1], l.floats[2], l.codes[0], l.floats[3], l.floats[4], l.floats[5], l.floats[6], l.floats[7], l.codes[1], l.codes[2]};
+}
+
+[[maybe_unused]] void add_columns(Text &text, const Columns &l, const char *order) {
+    std::size_t f = 0, u = 0;
+    for (; *order; order++) *order == 'f' ? text.list(l.floats[f++]) : text.list(l.codes[u++]);
+}
+
+template <class T>
+bool holds(const Lent<T> &list, const std::vector<T> &cells) {
+    return cells.empty() || !std::memcmp(list.data(), cells.data(), cells.size() * sizeof(T));
+}
+
+#define LENT(list) list.data(), list.size()
+
+#ifdef JUDGE_HAS_FLEX_LINE
+void try_flex_line(Draw &draw) {
+    Columns l = flex_columns(draw);
+    float inner = float(below(20)), gap = float(below(3));
+    l.damage();
+    if (one_in(8)) inner = any_float();
+    if (one_in(8)) gap = any_float();
+    l.lend(), out_floats[0].lend(room(l.n()), any_stand());
+    const auto a = fratolivem_flex_line(inner, gap, LENT(in_floats[0]), LENT(in_floats[1]), LENT(in_floats[2]), LENT(in_codes[0]),
+                                        LENT(in_floats[3]), LENT(in_floats[4]), LENT(in_floats[5]), LENT(in_floats[6]), LENT(in_floats[7]),
+                                        LENT(in_codes[1]), LENT(in_codes[2]), LENT(out_floats[0]));
+    Text text("flex_line");
+    text.f(inner).f(gap), add_columns(text, l, flex_order), text.u(out_floats[0].size());
+    const std::string line = text.answered(a.number, a.where, a.place);
+    const bool ok = a.number == 0;
+    expect(l.kept() && kept(out_floats[0], ok, l.n()), "other cells were changed", line);
+    expect(ok || (a.free == 0 && a.rounds == 0), "a refusal has values", line);
+    if (!ok) return;
+    const auto m = model::flex_line(inner, gap, flex_lists(l), out_floats[0].size());
+    expect(a.free == m.free && a.rounds == m.rounds && holds(out_floats[0], m.targets), "the answer is not the model's", line);
+}
+#endif
+
+#ifdef JUDGE_HAS_FLEX_LINES
+void try_flex_lines(Draw &draw) {
+    Columns l = flex_columns(draw);
+    float inner = float(below(20)), gap = float(below(3));
+    l.damage();
+    if (one_in(8)) inner = any_float();
+    if (one_in(8)) gap = any_float();
+    std::vector<uint32_t> counts;
+    for (std::size_t left = l.n(); left;) {
+        const std::size_t count = left > 1000 ? left : 1 + below(left);
+        counts.push_back(uint32_t(count)), left -= count;
+    }
+    switch (below(30)) {
+    case 0: counts.push_back(0); break;
+    case 1: counts.push_back(uint32_t(chance())); break;
+    case 2:
+        if (!counts.empty()) counts[below(counts.size())] = any_code();
+        break;
+    case 3: counts.assign(1020 + below(8), 1); break;
+    case 4: counts = {0xffffffffu, uint32_t(l.n()) + 1}; break; // a sum that wraps round in 32 bits
+    default: break;
+    }
+    Lent<uint32_t> &lines = in_codes[3];
+    l.lend(), lines.lend(counts, any_stand());
+    out_floats[0].lend(room(l.n()), any_stand()), out_ints.lend(room(l.n()), any_stand()), out_codes[1].lend(room(l.n()), any_stand());
+    const auto a = fratolivem_flex_lines(inner, gap, LENT(lines), LENT(in_floats[0]), LENT(in_floats[1]), LENT(in_floats[2]), LENT(in_codes[0]),
+                                         LENT(in_floats[3]), LENT(in_floats[4]), LENT(in_floats[5]), LENT(in_floats[6]), LENT(in_floats[7]),
+                                         LENT(in_codes[1]), LENT(in_codes[2]), LENT(out_floats[0]), LENT(out_ints), LENT(out_codes[1]));
+    Text text("flex_lines");
+    text.f(inner).f(gap).list(counts), add_columns(text, l, flex_order);
+    text.u(out_floats[0].size()).u(out_ints.size()).u(out_codes[1].size());
+    const std::string line = text.answered(a.number, a.where, a.place);
+    const bool ok = a.number == 0;
+    expect(l.kept() && lines.kept() && kept(out_floats[0], ok, l.n()) && kept(out_ints, ok, l.n()) && kept(out_codes[1], ok, l.n()),
+           "other cells were changed", line);
+    expect(ok || (a.lines == 0 && a.rounds == 0), "a refusal has values", line);
+    if (!ok) return;
+    const auto m = model::flex_lines(inner, gap, counts, flex_lists(l), l.n());
+    expect(a.lines == m.lines && a.rounds == m.rounds && holds(out_floats[0], m.targets) && holds(out_ints, m.free) &&
+               holds(out_codes[1], m.rounds_by_line),
+           "the answer is not the model's", line);
+}
+#endif
+
 // ---- the whole pass
 
 #ifdef JUDGE_HAS_PASS
@@ -274,11 +373,6 @@ To recast(const From &from) {
     To to;
     std::memcpy(&to, &from, sizeof to);
     return to;
-}
-
-template <class T>
-bool holds(const Lent<T> &list, const std::vector<T> &cells) {
-    return cells.empty() || !std::memcmp(list.data(), cells.data(), cells.size() * sizeof(T));
 }
 
 void run_pass(const Case &c) {
@@ -373,6 +467,12 @@ int main(int argc, char **argv) {
         try_greedy,
         try_balanced,
         try_parts,
+#ifdef JUDGE_HAS_FLEX_LINE
+        try_flex_line,
+#endif
+#ifdef JUDGE_HAS_FLEX_LINES
+        try_flex_lines,
+#endif
 #ifdef JUDGE_HAS_PASS
         try_pass,
         try_pass,
