@@ -25,7 +25,7 @@ pub enum Mode {
     Balanced,
 }
 
-// The sizes that breaking takes: the hypothetical outer main sizes of the table's first n items.
+// The sizes that breaking takes: the hypothetical outer main sizes of the table's first n items. No entry point.
 pub fn outer_sizes(table: &[f32; 8192], n: usize, sizes: &mut [f32])
     requires { ⌜ (n ≤ 1024) × (n ≤ length (now sizes)) ⌝ }
     ensures { λ _. ⌜ now (sizes .exit) ≡ outerSizes (itemsIn (now (table .entry)) 0 n) ++ drop n (now (sizes .entry)) ⌝ }
@@ -100,7 +100,7 @@ fn balanced_lines(
     lines
 }
 
-// The lines of the sizes, by wrap mode.
+// The lines of the sizes, by wrap mode. No entry point: what it asks is what the checks show.
 pub fn break_lines(
     mode: Mode,
     limit: AvailableSpace,
