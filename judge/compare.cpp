@@ -344,6 +344,7 @@ int main(int argc, char **argv) {
     for (int s = 0; s < stage_count; s++) {
         Draw draw(seed + uint64_t(s));
         for (long i = 0; i < cases; i++) compare(draw.next(Stage(s)));
+        for (long i = 0; i < cases / 2 && Stage(s) == Stage::balanced; i++) compare(draw.slip());
     }
     const long random_bad = report();
     for (Count &count : counts) count = Count();

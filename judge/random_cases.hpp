@@ -33,6 +33,24 @@ public:
     }
     std::size_t most_items = 0; // 0: as each stage likes it
 
+    // A longer list for balanced breaking, made to slip a midpoint search: mixed sizes with long runs of zeros after them, limits round what some
+    // run of items takes, and more lines than are needed.
+    Case slip() {
+        Case c{Stage::balanced, {1, 1, 1, one_in(8) ? 2u : 0u, 0, 0, 0, 0, 0, 0, 1}, {}, {}, {}};
+        const std::size_t n = 8 + below(one_in(20) ? 400 : 60);
+        const uint64_t kinds = 2 + below(12);
+        c.breaking.gap = std::array<float, 4>{0, 0, 1, 10}[below(4)];
+        while (c.list.size() < n) {
+            for (std::size_t mixed = 1 + below(8); mixed && c.list.size() < n; mixed--) c.list.push_back(float(below(kinds) * 5));
+            for (std::size_t run = below(1 + n / (1 + below(6))); run && c.list.size() < n; run--) c.list.push_back(0.0f);
+        }
+        const std::size_t from = below(n), to = from + 1 + below(n - from);
+        for (std::size_t i = from; i < to; i++) c.breaking.available += c.list[i] + (i > from ? c.breaking.gap : 0.0f);
+        if (one_in(2)) c.breaking.available += float(below(3)) - 1.0f;
+        if (one_in(2)) c.breaking.line_count = uint32_t(below(n + 2));
+        return c;
+    }
+
 private:
     // Lengths of one case are small multiples of one unit, so that they meet; seldom any multiples of 1/64.
     void scale() {
