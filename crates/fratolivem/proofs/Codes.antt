@@ -18,8 +18,9 @@ use Rattle.breaking.specs.Calls.{breakingVerdict, units, Broken, brokenInto, gr
 use Rattle.breaking.proofs.Accepted.{code-passes, code-fails}
 use Rattle.refusal.specs.declared.Answer.{Answer}
 use Rattle.balance.specs.Calls.{Lent, hasRoom, BalancedCall}
-use Rattle.fratolivem.specs.declared.CAnswer.{CAnswer}
-use Rattle.fratolivem.specs.Boundary.{cAnswer, spaceOf, kindNumber, greedyFromC, balancedFromC, BalancedFromC}
+use Rattle.crossing.specs.declared.CAnswer.{CAnswer}
+use Rattle.crossing.specs.Crossing.{cAnswer}
+use Rattle.fratolivem.specs.Boundary.{spaceOf, kindNumber, greedyFromC, balancedFromC, BalancedFromC}
 
 -- a verdict that refused, as the answer of a call: no lines were made, so it does not matter which would have been
 as-refused : (v : Verdict) (lines : List ℕ) (n : ℕ) (before : List ℕ) → ¬ (v ≡ Passed) → (asAnswer v 0 0 ≡ brokenInto v lines n before .answer) × (before ≡ brokenInto v lines n before .counts)

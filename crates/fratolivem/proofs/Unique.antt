@@ -9,8 +9,9 @@ use Rattle.refusal.specs.declared.Verdict.the-variants.{Passed, Refused}
 use Rattle.refusal.specs.declared.Answer.the-variants.{Done}
 use Rattle.balance.specs.Calls.{Lent}
 use Rattle.balance.proofs.Call.{divides-one}
-use Rattle.fratolivem.specs.declared.CAnswer.{CAnswer}
-use Rattle.fratolivem.specs.Boundary.{cAnswer, spaceOf, balancedFromC, BalancedFromC}
+use Rattle.crossing.specs.declared.CAnswer.{CAnswer}
+use Rattle.crossing.specs.Crossing.{cAnswer}
+use Rattle.fratolivem.specs.Boundary.{spaceOf, balancedFromC, BalancedFromC}
 
 module _ (kind : ℕ) (limit gap : Float) (minimum : ℕ) (sizes : List Float) (before : Lent) where
   pub one-balanced : (r s : CAnswer) (a c : Lent) → BalancedFromC kind limit gap minimum sizes before r a → BalancedFromC kind limit gap minimum sizes before s c → (r ≡ s) × (a ≡ c)

@@ -8,7 +8,7 @@ use lib.Dec.{leb, eqb}
 use lib.ListN.{length}
 use lib.Ieee.{Float, binary32, ofBits}
 use Rattle.grid.specs.Grid.{sixtyFourths}
-use Rattle.refusal.specs.Domain.{Number, code, Where, nowhere, at-container, at-item, Paper, paper, refusalOf}
+use Rattle.refusal.specs.Domain.{Number, code, refusalOf}
 use Rattle.refusal.specs.declared.Refusal.{Refusal}
 use Rattle.refusal.specs.declared.Verdict.{Verdict}
 use Rattle.refusal.specs.declared.Verdict.the-variants.{Passed}
@@ -28,26 +28,9 @@ use Rattle.breaking.specs.Limit.{limitVerdict, limitFrom}
 use Rattle.breaking.specs.Breaking.{limitOf, greedy}
 use Rattle.breaking.specs.Calls.{breakingVerdict, units, Broken, brokenInto}
 use Rattle.balance.specs.Calls.{Lent, hasRoom, Divides}
-use Rattle.fratolivem.specs.declared.CAnswer.{CAnswer}
+use Rattle.crossing.specs.declared.CAnswer.{CAnswer}
+use Rattle.crossing.specs.Crossing.{crossed, cAnswer}
 use Rattle.fratolivem.specs.declared.CLimit.{CLimit}
-
--- where: 0 nowhere, 1 the container, 2 the item, line or byte `place`
-abbrev pub whereCode : Where → ℕ
-whereCode nowhere = 0
-whereCode at-container = 1
-whereCode (at-item i) = 2
-
-abbrev pub whereIndex : Where → ℕ
-whereIndex nowhere = 0
-whereIndex at-container = 0
-whereIndex (at-item i) = i
-
--- an answer's number, place, lines and rounds
-abbrev pub crossed : Paper → CAnswer
-crossed p = record { number = p .number; at = whereCode (p .place); place = whereIndex (p .place); lines = p .lines; rounds = p .rounds }
-
-abbrev pub cAnswer : Answer → CAnswer
-cAnswer a = crossed (paper a)
 
 -- limit kinds: 0 definite, 1 min-content, 2 max-content; the limit is read only under 0
 abbrev pub spaceOf : ℕ → Float → AvailableSpace

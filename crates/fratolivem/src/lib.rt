@@ -1,30 +1,19 @@
-// The calls that a host in C or C++ links (include/fratolivem.h). Enums do not cross, so kinds are codes here, and a code that names
+// The calls that break lines, for a host in C or C++ (include/fratolivem.h). Enums do not cross, so kinds are codes here, and a code that names
 // nothing is refusal 5. Every call takes any bits; all else is inside.
 ghost use mathlib.Core.Path.{_≡_};
 ghost use lib.Ieee.{Float};
 ghost use Rattle.breaking.specs.Limit.{limitFrom};
 ghost use Rattle.refusal.specs.Marks.{leastOf};
-ghost use Rattle.refusal.specs.Domain.{refusedAs, whereOf, refusalOf};
-ghost use Rattle.fratolivem.specs.Boundary.{crossed, cAnswer, spaceOf, boundOf, cSpace, cRefused, cLimit, askedCodes, limitFromC, Crossed, greedyFromC, BalancedFromC};
+ghost use Rattle.fratolivem.specs.Boundary.{spaceOf, boundOf, cSpace, cRefused, cLimit, askedCodes, limitFromC, Crossed, greedyFromC, BalancedFromC};
 ghost use Rattle.balance.specs.Calls.{lent};
 use breaking::AvailableSpace;
 use breaking::Bound;
 use breaking::Query;
-use refusal::Answer;
+use crossing::CAnswer;
+use crossing::refusal_to_c;
+use crossing::to_c;
 use refusal::Mark;
-use refusal::Place;
-use refusal::Refusal;
 use refusal::Verdict;
-
-// An answer's number, its place, its lines and its rounds. `at` says where: 0 nowhere, 1 the container, 2 the item, line or byte `place`.
-#[repr(C)]
-pub struct CAnswer {
-    pub number: u32,
-    pub at: u32,
-    pub place: u32,
-    pub lines: u32,
-    pub rounds: u32,
-}
 
 // A break limit: number and place as above, then its kind (0 definite, 1 min-content, 2 max-content, 3 none: refused), and the limit where it is definite.
 #[repr(C)]
@@ -34,55 +23,6 @@ pub struct CLimit {
     pub place: u32,
     pub kind: u32,
     pub limit: f32,
-}
-
-fn refused(number: u32, place: Place) -> CAnswer
-    ensures { λ r. ⌜ r ≡ crossed (refusedAs number (whereOf place)) ⌝ }
-{
-    match place {
-        Place::Container => CAnswer {
-            number,
-            at: 1,
-            place: 0,
-            lines: 0,
-            rounds: 0,
-        },
-        Place::At(i) => CAnswer {
-            number,
-            at: 2,
-            place: i,
-            lines: 0,
-            rounds: 0,
-        },
-    }
-}
-
-fn refusal_to_c(why: Refusal) -> CAnswer
-    ensures { λ r. ⌜ r ≡ crossed (refusalOf why) ⌝ }
-{
-    match why {
-        Refusal::TooManyItems => refused(1, Place::Container),
-        Refusal::TooLittleRoom => refused(2, Place::Container),
-        Refusal::NotFinite(p) => refused(3, p),
-        Refusal::OffGrid(p) => refused(4, p),
-        Refusal::OutOfRange(p) => refused(5, p),
-        Refusal::SumTooLarge => refused(6, Place::Container),
-    }
-}
-
-fn to_c(a: Answer) -> CAnswer
-    ensures { λ r. ⌜ r ≡ cAnswer a ⌝ }
-{
-    match a {
-        Answer::Done { lines, rounds } => CAnswer {
-            number: 0,
-            at: 0,
-            place: 0,
-            lines,
-            rounds,
-        },
-        Answer::Refused(why) => refusal_to_c(why),
-    }
 }
 
 fn space_of(kind: u32, limit: f32) -> AvailableSpace

@@ -8,7 +8,8 @@ use Rattle.breaking.specs.declared.AvailableSpace.{AvailableSpace}
 use Rattle.breaking.specs.Calls.{breakingVerdict}
 use Rattle.balance.specs.Calls.{Lent, lent}
 use Rattle.balance.proofs.Call.{verdict-is}
-use Rattle.fratolivem.specs.Boundary.{cAnswer, spaceOf, kindNumber}
+use Rattle.crossing.specs.Crossing.{cAnswer}
+use Rattle.fratolivem.specs.Boundary.{spaceOf, kindNumber}
 use Rattle.fratolivem.proofs.Codes.{balanced-unnamed, balanced-named}
 use borrow.Author.Needs.{needs}
 use Rattle.fratolivem.proofs.fratolivem_balanced_parts.Statement.{statement}

@@ -12,7 +12,8 @@ use Rattle.refusal.specs.declared.Answer.{Answer}
 use Rattle.refusal.specs.declared.Verdict.{Verdict}
 use Rattle.breaking.specs.declared.AvailableSpace.{AvailableSpace}
 use Rattle.breaking.specs.Calls.{breakingVerdict, Broken, greedyCall}
-use Rattle.fratolivem.specs.Boundary.{cAnswer, spaceOf, kindNumber, greedyFromC}
+use Rattle.crossing.specs.Crossing.{cAnswer}
+use Rattle.fratolivem.specs.Boundary.{spaceOf, kindNumber, greedyFromC}
 use Rattle.fratolivem.proofs.Codes.{unnamed, named}
 use borrow.Author.Needs.{needs}
 use Rattle.fratolivem.proofs.fratolivem_greedy.Statement.{statement}

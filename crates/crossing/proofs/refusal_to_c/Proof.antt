@@ -1,11 +1,11 @@
--- `fratolivem::refusal_to_c` meets its contract, by the six refusals. Assumes nothing.
+-- `crossing::refusal_to_c` meets its contract, by the six refusals. Assumes nothing.
 use mathlib.Core.Path.{_≡_, sym, ap, _∙_}
 use Rattle.refusal.specs.declared.Refusal.{Refusal}
 use Rattle.refusal.specs.Domain.{refusalOf}
-use Rattle.fratolivem.specs.Boundary.{crossed}
+use Rattle.crossing.specs.Crossing.{crossed}
 use borrow.Author.Needs.{needs}
-use Rattle.fratolivem.proofs.refusal_to_c.Statement.{statement}
-use Rattle.fratolivem.proofs.refusal_to_c.Tie as tie
+use Rattle.crossing.proofs.refusal_to_c.Statement.{statement}
+use Rattle.crossing.proofs.refusal_to_c.Tie as tie
 
 enum-told : tie.Need-enum-told
 enum-told c = search needs

@@ -1,11 +1,11 @@
--- `fratolivem::refused` meets its contract, by the two cases of a place. Assumes nothing.
+-- `crossing::refused` meets its contract, by the two cases of a place. Assumes nothing.
 use mathlib.Core.Path.{_≡_, sym, ap}
 use Rattle.refusal.specs.declared.Place.{Place}
 use Rattle.refusal.specs.Domain.{refusedAs, whereOf}
-use Rattle.fratolivem.specs.Boundary.{crossed}
+use Rattle.crossing.specs.Crossing.{crossed}
 use borrow.Author.Needs.{needs}
-use Rattle.fratolivem.proofs.refused.Statement.{statement}
-use Rattle.fratolivem.proofs.refused.Tie as tie
+use Rattle.crossing.proofs.refused.Statement.{statement}
+use Rattle.crossing.proofs.refused.Tie as tie
 
 enum-told : tie.Need-enum-told
 enum-told c = search needs

@@ -1,9 +1,9 @@
--- `fratolivem::to_c` meets its contract, by the two cases of an answer. Assumes nothing.
+-- `crossing::to_c` meets its contract, by the two cases of an answer. Assumes nothing.
 use mathlib.Core.Path.{_≡_, sym, ap, _∙_}
-use Rattle.fratolivem.specs.Boundary.{cAnswer}
+use Rattle.crossing.specs.Crossing.{cAnswer}
 use borrow.Author.Needs.{needs}
-use Rattle.fratolivem.proofs.to_c.Statement.{statement}
-use Rattle.fratolivem.proofs.to_c.Tie as tie
+use Rattle.crossing.proofs.to_c.Statement.{statement}
+use Rattle.crossing.proofs.to_c.Tie as tie
 
 enum-known-a : tie.Need-enum-known-a
 enum-known-a c = search needs

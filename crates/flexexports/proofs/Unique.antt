@@ -1,0 +1,28 @@
+-- The contracts of the exported calls that flex leave no choice: any two results that one allows, cells included, are equal. By the same of the
+-- calls inside. Assumes nothing.
+use mathlib.Core.Path.{_≡_, sym, ap, _∙_}
+use mathlib.Core.List.{List}
+use Prim.Native.Nat.{ℕ}
+use lib.IntN.{ℤ}
+use lib.Ieee.{Float}
+use Rattle.refusal.specs.declared.Answer.{Answer}
+use Rattle.flexing.specs.Items.{Lists}
+use Rattle.flexcalls.specs.declared.FlexAnswer.{FlexAnswer}
+use Rattle.flexcalls.specs.Call.{valuesOf}
+use Rattle.flexcalls.proofs.Determined.{line-determined}
+use Rattle.flexcalls.proofs.Independent.{lines-determined}
+use Rattle.crossing.specs.declared.CAnswer.{CAnswer}
+use Rattle.crossing.specs.Crossing.{cAnswer}
+use Rattle.flexexports.specs.declared.CFlexed.{CFlexed}
+use Rattle.flexexports.specs.Flexed.{cFlexed, FlexedFromC, FlexedLinesFromC}
+
+pub one-line : (inner gap : Float) (ls : Lists) (old : List Float) (r s : CFlexed) (a b : List Float) → FlexedFromC inner gap ls r old a → FlexedFromC inner gap ls s old b → (r ≡ s) × (a ≡ b)
+one-line inner gap ls old r s a b p q =
+    let d = line-determined inner gap ls old (p .inside) (q .inside) a b (p .flexed) (q .flexed) in
+    (p .told ∙ ap (λ (x : FlexAnswer). cFlexed (valuesOf x)) (d .0) ∙ sym (q .told), d .1)
+
+pub one-by-line : (inner gap : Float) (counts : List ℕ) (ls : Lists) (targets₀ : List Float) (free₀ : List ℤ) (rounds₀ : List ℕ) (r s : CAnswer) (a b : List Float) (f g : List ℤ) (m n : List ℕ)
+    → FlexedLinesFromC inner gap counts ls r targets₀ free₀ rounds₀ a f m → FlexedLinesFromC inner gap counts ls s targets₀ free₀ rounds₀ b g n → (r ≡ s) × (a ≡ b) × (f ≡ g) × (m ≡ n)
+one-by-line inner gap counts ls targets₀ free₀ rounds₀ r s a b f g m n p q =
+    let d = lines-determined inner gap counts ls targets₀ free₀ rounds₀ (p .inside) (q .inside) a b f g m n (p .flexed) (q .flexed) in
+    (p .told ∙ ap cAnswer (d .0) ∙ sym (q .told), d .1, d .2, d .3)

@@ -1,0 +1,39 @@
+-- `flexexports::flexed_to_c` meets its contract, by the two cases of an answer. Assumes nothing.
+use mathlib.Core.Path.{_≡_, sym, ap, _∙_}
+use lib.IntN.{ℤ}
+use mir.Syntax.{w32}
+use mir.ValLaws.{toZ-ofZ}
+use Rattle.refusal.specs.Domain.{nowhere}
+use Rattle.flexcalls.specs.declared.FlexAnswer.{FlexAnswer}
+use Rattle.flexcalls.specs.Call.{valuesOf}
+use Rattle.flexexports.specs.Flexed.{cFlexed, cNothing}
+use borrow.Author.Needs.{needs}
+use Rattle.flexexports.proofs.flexed_to_c.Statement.{statement}
+use Rattle.flexexports.proofs.flexed_to_c.Tie as tie
+
+enum-known-a : tie.Need-enum-known-a
+enum-known-a c = search needs
+
+enum-known-a-2 : tie.Need-enum-known-a-2
+enum-known-a-2 c = search needs
+
+refusal-to-c-requires : tie.Need-refusal-to-c-requires
+refusal-to-c-requires c κs = search needs
+
+nothing-requires : tie.Need-nothing-requires
+nothing-requires c κs = search needs
+
+returns : tie.Need-returns
+returns c =
+    let v = c .before .before .a .given in
+    -- the free space is read back from its bits, which hold it
+    let back = toZ-ofZ w32 (v .0 .0 .0) (record { sfits = c .struct-told .given .0 .1 }) in
+    ap (λ (z : ℤ). cFlexed (record { number = 0; place = nowhere; free = z; rounds = v .0 .1 .0 })) back ∙ ap (λ (a : FlexAnswer). cFlexed (valuesOf a)) (sym (v .1))
+
+returns-2 : tie.Need-returns-2
+returns-2 c = c .nothing .ensures ∙ ap cNothing (c .before .refusal-to-c .ensures) ∙ ap (λ (a : FlexAnswer). cFlexed (valuesOf a)) (sym (c .before .before .before .a2 .given .1))
+
+pub flexed-to-c-spec : {M : Type 1} → statement M
+flexed-to-c-spec =
+    tie.close
+    (tie.spec enum-known-a enum-known-a-2 refusal-to-c-requires nothing-requires returns returns-2)
