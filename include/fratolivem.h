@@ -1,4 +1,4 @@
-/* Fratolivem: breaking items into lines, for C99 and C++17. C++ hosts may take fratolivem.hpp, which stands over this file.
+/* Fratolivem: breaking items into lines and flexing them, for C99 and C++17. C++ hosts may take fratolivem.hpp, which stands over this file.
  *
  * Any bits may be handed in: a call answers or refuses, and never goes wrong over a number. What a host must see to:
  *  - a list is a pointer and a number of cells; a list of 0 cells may be NULL;
@@ -11,8 +11,8 @@
  * Lengths are pixels, whole multiples of 1/64, of at most 262,144 px either way; -0.0 reads as 0, and no answer is -0.0.
  * Sizes and limits may be negative, gaps and bounds may not. The sum over the items of (|size| + gap) is at most 262,144 px.
  *
- * On acceptance the first n cells of `counts` hold the lines' item counts, and 0 past the last line; cells past these n are unchanged.
- * A refusal changes no lent cell.
+ * On acceptance of a breaking call the first n cells of `counts` hold the lines' item counts, and 0 past the last line. Cells past the named
+ * ones are unchanged in every call. A refusal changes no lent cell.
  */
 #ifndef FRATOLIVEM_H
 #define FRATOLIVEM_H
@@ -28,7 +28,7 @@ extern "C" {
 enum {
     FRATOLIVEM_ACCEPTED = 0,
     FRATOLIVEM_TOO_MANY_ITEMS = 1,  /* more than 1,024 in an input list; at the container */
-    FRATOLIVEM_TOO_LITTLE_ROOM = 2, /* a lent list is too short; at the container */
+    FRATOLIVEM_TOO_LITTLE_ROOM = 2, /* input lists of unequal length, or a lent list too short; at the container */
     FRATOLIVEM_NOT_FINITE = 3,      /* a NaN or an infinity */
     FRATOLIVEM_OFF_GRID = 4,        /* no whole multiple of 1/64 px */
     FRATOLIVEM_OUT_OF_RANGE = 5,    /* a number, or a code that this file does not name */
@@ -232,6 +232,49 @@ fratolivem_passed fratolivem_pass(fratolivem_container container, const fratoliv
                                   size_t placed_len, float *lines, size_t lines_len, uint32_t *counts, size_t counts_len,
                                   uint32_t *rounds, size_t rounds_len, int32_t *free, size_t free_len, uint32_t *work,
                                   size_t work_len, double *sums, size_t sums_len);
+
+/* ---- flexing: CSS-FLEX 9.7, the free space of a line shared out over its items */
+
+typedef struct {
+    uint32_t number;
+    uint32_t where;
+    uint32_t place;
+    int32_t free;    /* before flexing, in sixty-fourths of a pixel: below 0 where the line is overfull; 0 on refusal */
+    uint32_t rounds; /* of the standard's loop, at most n; 0 on refusal */
+} fratolivem_flexed;
+
+/* Flexes one line, all in f32, each operation rounded once. `inner` is the container's inner main size and `gap` that between two items. The
+ * items are eleven lists of n cells each (of unequal length: refusal 2); what item i is stands in cell i of each:
+ *   base          its flex base size, at least 0, padding and border counted in. The call does not raise it: a host that follows the standard
+ *                 hands over a base of at least padding plus border.
+ *   minimum       its minimum main size, at least 0
+ *   maximum       its maximum main size, at least 0; read only where has_maximum is 1
+ *   has_maximum   0 or 1
+ *   edges         its padding plus border along the main axis, at least 0: no target is smaller
+ *   grow, shrink  its flex factors: any float of 0 to 1,024, on the grid or off it
+ *   start, end    its margins, of at most 131,072 px either way; read only where they are not auto
+ *   auto_start, auto_end   0, or 1 where the margin is auto, which counts as 0 here
+ * Room: n targets. On acceptance the first n cells hold the items' main sizes, padding and border counted in, which need not be on the grid.
+ * A code that is neither 0 nor 1 is refusal 5 at its item; a number that is not read is not checked. Refusal 6 goes by the items' outer sizes
+ * before flexing: each base held to its bounds, and its margins. */
+fratolivem_flexed fratolivem_flex_line(float inner, float gap, const float *base, size_t base_len, const float *minimum, size_t minimum_len,
+                                       const float *maximum, size_t maximum_len, const uint32_t *has_maximum, size_t has_maximum_len,
+                                       const float *edges, size_t edges_len, const float *grow, size_t grow_len, const float *shrink,
+                                       size_t shrink_len, const float *start, size_t start_len, const float *end, size_t end_len,
+                                       const uint32_t *auto_start, size_t auto_start_len, const uint32_t *auto_end, size_t auto_end_len,
+                                       float *targets, size_t targets_len);
+
+/* Flexes many lines, each by its own items alone: line j has the next counts[j] of the n items. The counts of a breaking call are such, cut to
+ * its lines. Counts of which one is 0, or that do not sum to n, are refusal 5 at the container; more than 1,024 are refusal 1.
+ * Room: n cells each of targets, free and rounds. On acceptance the first n targets are the items' main sizes, as above; free and rounds hold
+ * what the call above answers, by line, and 0 past the last line up to n; the answer's rounds are their sum. */
+fratolivem_answer fratolivem_flex_lines(float inner, float gap, const uint32_t *counts, size_t counts_len, const float *base, size_t base_len,
+                                        const float *minimum, size_t minimum_len, const float *maximum, size_t maximum_len,
+                                        const uint32_t *has_maximum, size_t has_maximum_len, const float *edges, size_t edges_len,
+                                        const float *grow, size_t grow_len, const float *shrink, size_t shrink_len, const float *start,
+                                        size_t start_len, const float *end, size_t end_len, const uint32_t *auto_start,
+                                        size_t auto_start_len, const uint32_t *auto_end, size_t auto_end_len, float *targets,
+                                        size_t targets_len, int32_t *free, size_t free_len, uint32_t *rounds, size_t rounds_len);
 
 #ifdef __cplusplus
 }

@@ -1,4 +1,4 @@
-// Fratolivem for C++17: the calls of fratolivem.h over spans, refusals as an enum with words, and scratch space that is kept.
+// Fratolivem for C++17: the calls of fratolivem.h over spans, items as columns, refusals as an enum with words, and scratch space that is kept.
 #ifndef FRATOLIVEM_HPP
 #define FRATOLIVEM_HPP
 
@@ -43,7 +43,7 @@ inline const char *words(refusal r) {
     switch (r) {
     case refusal::none: return "accepted";
     case refusal::too_many_items: return "a list has more than 1,024 items";
-    case refusal::too_little_room: return "too little lent room";
+    case refusal::too_little_room: return "lists of unequal length, or too little lent room";
     case refusal::not_finite: return "a number is NaN or infinite";
     case refusal::off_grid: return "a length is no whole multiple of 1/64 px";
     case refusal::out_of_range: return "a number is out of range";
@@ -63,7 +63,7 @@ inline std::string refusal_text(refusal why, std::uint32_t where, std::uint32_t 
     return why == refusal::none ? std::string(words(why)) : std::string(words(why)) + ", at " + place_words(where, place);
 }
 
-// The answer of a breaking call. It is true where the input was accepted; else no lent cell was changed.
+// The answer of a call over lines. It is true where the input was accepted; else no lent cell was changed.
 struct [[nodiscard]] answer : fratolivem_answer {
     explicit operator bool() const { return number == FRATOLIVEM_ACCEPTED; }
     refusal why() const { return static_cast<refusal>(number); }
@@ -258,6 +258,42 @@ inline std::vector<box> boxes(const fratolivem_container &c, const frame &f) {
         cross += line.cross_size;
     }
     return out;
+}
+
+// The items that flexing takes, a column for each number: all of one length. fratolivem_flex_line says what each of them is.
+struct flex_columns {
+    span<const float> base, minimum, maximum;
+    span<const std::uint32_t> has_maximum;
+    span<const float> edges, grow, shrink, start, end;
+    span<const std::uint32_t> auto_start, auto_end;
+};
+
+// The answer of flex_line: true where the input was accepted; else no target was changed.
+struct [[nodiscard]] flexed : fratolivem_flexed {
+    explicit operator bool() const { return number == FRATOLIVEM_ACCEPTED; }
+    refusal why() const { return static_cast<refusal>(number); }
+    std::string text() const { return refusal_text(why(), where, place); }
+    bool overfull() const { return fratolivem_flexed::free < 0; }
+};
+
+inline flexed flex_line(float inner, float gap, const flex_columns &items, span<float> targets) {
+    return {fratolivem_flex_line(inner, gap, items.base.data(), items.base.size(), items.minimum.data(), items.minimum.size(),
+                                 items.maximum.data(), items.maximum.size(), items.has_maximum.data(), items.has_maximum.size(),
+                                 items.edges.data(), items.edges.size(), items.grow.data(), items.grow.size(), items.shrink.data(),
+                                 items.shrink.size(), items.start.data(), items.start.size(), items.end.data(), items.end.size(),
+                                 items.auto_start.data(), items.auto_start.size(), items.auto_end.data(), items.auto_end.size(),
+                                 targets.data(), targets.size())};
+}
+
+inline answer flex_lines(float inner, float gap, span<const std::uint32_t> counts, const flex_columns &items, span<float> targets,
+                         span<std::int32_t> free, span<std::uint32_t> rounds) {
+    return {fratolivem_flex_lines(inner, gap, counts.data(), counts.size(), items.base.data(), items.base.size(), items.minimum.data(),
+                                  items.minimum.size(), items.maximum.data(), items.maximum.size(), items.has_maximum.data(),
+                                  items.has_maximum.size(), items.edges.data(), items.edges.size(), items.grow.data(), items.grow.size(),
+                                  items.shrink.data(), items.shrink.size(), items.start.data(), items.start.size(), items.end.data(),
+                                  items.end.size(), items.auto_start.data(), items.auto_start.size(), items.auto_end.data(),
+                                  items.auto_end.size(), targets.data(), targets.size(), free.data(), free.size(), rounds.data(),
+                                  rounds.size())};
 }
 
 } // namespace fratolivem
