@@ -1,3 +1,4 @@
 pub mod Counts
 pub mod Each
 pub mod Spread
+pub mod Fallback

@@ -4,3 +4,4 @@ pub mod AcrossLaws
 pub mod BoundMarks
 pub mod Stretched
 pub mod ItemMarks
+pub mod AutoMargins

@@ -1,5 +1,6 @@
 // The items of one line across it: used cross sizes (CSS-FLEX 9.4, step 11), auto margins and `align-self` (9.6).
 ghost use mathlib.Core.Path.{_≡_};
+ghost use mathlib.Core.Bool.{_&&_};
 ghost use Prim.Native.Nat.{_<_};
 ghost use lib.ListN.{length};
 ghost use Rattle.crossaxis.specs.CrossSize.{items};
@@ -50,14 +51,18 @@ fn free_cross_space(line: f32, it: CrossItem, size: f32) -> f32
     line - (size + cross_size::margin_sum(it))
 }
 
+fn are_both(a: bool, b: bool) -> bool
+    ensures { λ r. ⌜ r ≡ (a && b) ⌝ }
+{
+    if a { b } else { false }
+}
+
 // What an auto margin takes: all of the free space, or half of it beside another. Negative free space is shared alike.
 fn auto_margin(free: f32, it: CrossItem) -> f32
     ensures { λ r. ⌜ r ≡ autoMargin free it ⌝ }
 {
-    if it.auto_start {
-        if it.auto_end {
-            return free / 2.0;
-        }
+    if are_both(it.auto_start, it.auto_end) {
+        return free / 2.0;
     }
     free
 }

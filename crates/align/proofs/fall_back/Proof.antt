@@ -1,7 +1,8 @@
 -- `align::fall_back` meets its contract: each arm of the match is a clause of the definition. Assumes nothing.
-use mathlib.Core.Path.{_≡_, sym, _∙_}
+use mathlib.Core.Path.{_≡_, sym, ap, _∙_}
 use borrow.Author.Tests.{le-leb, lt-leb}
 use Rattle.align.specs.Align.{fallback}
+use Rattle.align.proofs.Fallback.{falls-short, falls-alone, stays}
 use borrow.Author.Needs.{needs}
 use Rattle.align.proofs.fall_back.Statement.{statement}
 use Rattle.align.proofs.fall_back.Tie as tie
@@ -19,15 +20,17 @@ fallback-of-requires : tie.Need-fallback-of-requires
 fallback-of-requires c κs = search needs
 
 returns : tie.Need-returns
-unfolding fallback
-returns c = rw (c .before .before .before .alignment3 .given .1, c .before .if1 .taken) (c .fallback-of .ensures)
+returns c =
+    let s = c .before .before .before .before .before .args in
+    c .fallback-of .ensures ∙ sym (falls-short (s .free) (s .n) _ (c .before .if1 .taken)) ∙ ap (fallback (s .free) (s .n)) (sym (c .before .before .before .alignment3 .given .1))
 
 fallback-of-requires-2 : tie.Need-fallback-of-requires-2
 fallback-of-requires-2 c κs = search needs
 
 returns-2 : tie.Need-returns-2
-unfolding fallback
-returns-2 c = rw (c .before .before .before .before .alignment3 .given .1, c .before .before .if1 .left, le-leb _ _ (c .before .if2 .taken)) (c .fallback-of2 .ensures)
+returns-2 c =
+    let s = c .before .before .before .before .before .before .args in
+    c .fallback-of2 .ensures ∙ sym (falls-alone (s .free) (s .n) _ (c .before .before .if1 .left) (le-leb _ _ (c .before .if2 .taken))) ∙ ap (fallback (s .free) (s .n)) (sym (c .before .before .before .before .alignment3 .given .1))
 
 returns-3 : tie.Need-returns-3
 unfolding fallback
@@ -38,8 +41,9 @@ unfolding fallback
 returns-4 c = rw (c .before .alignment2 .given .1)
 
 returns-5 : tie.Need-returns-5
-unfolding fallback
-returns-5 c = rw (c .before .before .before .alignment3 .given .1, c .before .if1 .left, lt-leb _ _ (c .if2 .left))
+returns-5 c =
+    let s = c .before .before .before .before .before .args in
+    sym (stays (s .free) (s .n) _ (c .before .if1 .left) (lt-leb _ _ (c .if2 .left))) ∙ ap (fallback (s .free) (s .n)) (sym (c .before .before .before .alignment3 .given .1))
 
 pub fall-back-spec : {M : Type 1} → statement M
 fall-back-spec =
