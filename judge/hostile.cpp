@@ -265,7 +265,7 @@ struct Columns {
 // The lists of the flexing calls in their order: which are floats, and which codes.
 constexpr const char *flex_order = "fffcfffffcc", *cross_order = "fffcfffcccc";
 
-[[maybe_unused]] Columns flex_columns(Draw &draw) {
+Columns flex_columns(Draw &draw) {
     room_odds = 40, draw.most_items = 5;
     const Case c = draw.next(Stage::flex);
     Columns l{std::vector<std::vector<float>>(8), std::vector<std::vector<uint32_t>>(3)};
@@ -278,11 +278,11 @@ constexpr const char *flex_order = "fffcfffffcc", *cross_order = "fffcfffcccc";
     return l;
 }
 
-[[maybe_unused]] model::FlexLists flex_lists(const Columns &l) {
+model::FlexLists flex_lists(const Columns &l) {
     return {l.floats[0], l.floats[1], l.floats[2], l.codes[0], l.floats[3], l.floats[4], l.floats[5], l.floats[6], l.floats[7], l.codes[1], l.codes[2]};
 }
 
-[[maybe_unused]] void add_columns(Text &text, const Columns &l, const char *order) {
+void add_columns(Text &text, const Columns &l, const char *order) {
     std::size_t f = 0, u = 0;
     for (; *order; order++) *order == 'f' ? text.list(l.floats[f++]) : text.list(l.codes[u++]);
 }
@@ -294,7 +294,6 @@ bool holds(const Lent<T> &list, const std::vector<T> &cells) {
 
 #define LENT(list) list.data(), list.size()
 
-#ifdef JUDGE_HAS_FLEX_LINE
 void try_flex_line(Draw &draw) {
     Columns l = flex_columns(draw);
     float inner = float(below(20)), gap = float(below(3));
@@ -315,9 +314,7 @@ void try_flex_line(Draw &draw) {
     const auto m = model::flex_line(inner, gap, flex_lists(l), out_floats[0].size());
     expect(a.free == m.free && a.rounds == m.rounds && holds(out_floats[0], m.targets), "the answer is not the model's", line);
 }
-#endif
 
-#ifdef JUDGE_HAS_FLEX_LINES
 void try_flex_lines(Draw &draw) {
     Columns l = flex_columns(draw);
     float inner = float(below(20)), gap = float(below(3));
@@ -359,7 +356,6 @@ void try_flex_lines(Draw &draw) {
                holds(out_codes[1], m.rounds_by_line),
            "the answer is not the model's", line);
 }
-#endif
 
 // ---- the whole pass
 
@@ -467,12 +463,8 @@ int main(int argc, char **argv) {
         try_greedy,
         try_balanced,
         try_parts,
-#ifdef JUDGE_HAS_FLEX_LINE
         try_flex_line,
-#endif
-#ifdef JUDGE_HAS_FLEX_LINES
         try_flex_lines,
-#endif
 #ifdef JUDGE_HAS_PASS
         try_pass,
         try_pass,

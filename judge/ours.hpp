@@ -27,10 +27,14 @@ inline Told broken(const Case &c) {
 }
 
 inline Told flexed(const Case &c) {
-    model::FlexLists lists;
-    for (const model::Item &it : c.items) lists.add(it.main());
-    const auto a = model::flex_line(c.container.inner_main, c.container.gap_main, lists, lists.n());
-    return {a.refusal.number, {a.targets, {}}};
+    model::FlexLists l;
+    for (const model::Item &it : c.items) l.add(it.main());
+    const std::size_t n = l.n();
+    std::vector<float> targets(n);
+    const auto a = fratolivem_flex_line(c.container.inner_main, c.container.gap_main, l.base.data(), n, l.minimum.data(), n, l.maximum.data(), n,
+                                        l.has_maximum.data(), n, l.edges.data(), n, l.grow.data(), n, l.shrink.data(), n, l.start.data(), n,
+                                        l.end.data(), n, l.auto_start.data(), n, l.auto_end.data(), n, targets.data(), n);
+    return {a.number, {targets, {}}};
 }
 
 inline void append(std::vector<float> &all, const std::vector<float> &list) { all.insert(all.end(), list.begin(), list.end()); }
