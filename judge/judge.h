@@ -61,6 +61,13 @@ void judge_main(const judge_container *c, const judge_item *items, const float *
 float judge_cross_size(const judge_container *c, const judge_item *items, size_t n);
 void judge_across(const judge_container *c, float line, const judge_item *items, size_t n, float *placed);
 
+/* The same flexing, of a line that is made before: for timing it alone. */
+typedef struct judge_line judge_line;
+judge_line *judge_line_of(const judge_container *c, const judge_item *items, size_t n);
+void judge_line_flex(judge_line *line);
+void judge_line_targets(const judge_line *line, float *targets);
+void judge_line_drop(judge_line *line);
+
 /* Lines along the cross axis. placed: sizes, offsets. Answers the inner cross size. */
 float judge_across_lines(const judge_container *c, const float *sizes, size_t n, float *placed);
 

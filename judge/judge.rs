@@ -829,6 +829,43 @@ pub unsafe extern "C" fn judge_flex(c: &Container, items: *const Item, n: usize,
     }
 }
 
+/// A line whose items have their flex base sizes, for timing 9.7 alone.
+pub struct Flexible {
+    constants: AlgoConstants,
+    items: Vec<FlexItem>,
+}
+
+#[no_mangle]
+pub unsafe extern "C" fn judge_line_of(c: &Container, items: *const Item, n: usize) -> *mut Flexible {
+    let constants = constants_of(c);
+    let items = slice(items, n);
+    let mut flexed = items_of(items, constants.dir);
+    let mut tree = Measured { dir: constants.dir, items };
+    determine_flex_base_size(&mut tree, &constants, Size::MAX_CONTENT, &mut flexed);
+    Box::into_raw(Box::new(Flexible { constants, items: flexed }))
+}
+
+/// The items are unfrozen first, as they are when the crate makes them.
+#[no_mangle]
+pub unsafe extern "C" fn judge_line_flex(line: &mut Flexible) {
+    for item in line.items.iter_mut() {
+        item.frozen = false;
+    }
+    resolve_flexible_lengths(&mut FlexLine { items: &mut line.items, cross_size: 0.0, offset_cross: 0.0 }, &line.constants);
+}
+
+#[no_mangle]
+pub unsafe extern "C" fn judge_line_targets(line: &Flexible, targets: *mut f32) {
+    for (target, item) in slice_mut(targets, line.items.len()).iter_mut().zip(line.items.iter()) {
+        *target = item.target_size.main(line.constants.dir);
+    }
+}
+
+#[no_mangle]
+pub unsafe extern "C" fn judge_line_drop(line: *mut Flexible) {
+    drop(Box::from_raw(line));
+}
+
 /// One line along the main axis, on worked-out targets. `placed` has three lists of n: offsets, used start margins, used end margins.
 #[no_mangle]
 pub unsafe extern "C" fn judge_main(c: &Container, items: *const Item, targets: *const f32, n: usize, placed: *mut f32) {
