@@ -1,13 +1,11 @@
 -- A walk over the lines that writes each line's part of a lent list: those written outlive the later ones, by the order of their ranges. Assumes nothing.
 use mathlib.Core.Path.{_≡_, refl, sym, ap, ap₂, _∙_, subst}
-use mathlib.Core.Logic.{_⊎_, inl, inr}
 use mathlib.Core.List.{List, [], _∷_, _++_}
-use Prim.Native.Nat.{ℕ, zero, suc, _+_, _-_, _≤_, _<_, zero-le}
-use native.Mathlib.Nat.{le-refl, eq-or-lt-of-le, le-of-suc-le-suc, le-antisymm}
+use Prim.Native.Nat.{ℕ, zero, suc, _+_, _-_, _≤_, _<_}
+use native.Mathlib.Nat.{le-antisymm}
 use native.Mathlib.Omega.{arith}
 use lib.ListN.{length, getD, take, drop, take-append-drop, drop-of-length-le}
-use lib.Seq.{take-add, take-take, take-at, take-nil, drop-at, drop-nil, drop-drop, length-take-le}
-use borrow.Author.Count.{below-none, below-more}
+use lib.Seq.{take-add, take-take, take-at, drop-at, drop-nil, drop-drop, length-take-le}
 use borrow.Rule.Slice.PartMut.{midOf, putMid, postOf, same-len-mid, mid-len, take-put, drop-put}
 use Rattle.refusal.specs.Marks.{sumUpTo}
 use Rattle.refusal.proofs.Sweep.{sum-none, sum-more}

@@ -1,6 +1,6 @@
 -- The items across their lines, line by line: the walk over the lines; that its contract leaves no choice; and that a line depends on its size and its own
 -- items alone. Assumes nothing.
-use mathlib.Core.Path.{_≡_, refl, sym, ap, _∙_, subst}
+use mathlib.Core.Path.{_≡_, refl, sym, _∙_, subst}
 use mathlib.Core.Bool.{Bool}
 use mathlib.Core.List.{List, []}
 use Prim.Native.Nat.{ℕ, _+_, _-_, _≤_, _<_, zero-le}
@@ -12,9 +12,9 @@ use borrow.Rule.Slice.PartMut.{midOf, putMid, mid-len}
 use Rattle.flexcalls.specs.Lines.{lineStart}
 use Rattle.crossaxis.specs.CrossSize.{Items, items, count}
 use Rattle.crossaxis.specs.CrossAxis.{Sorted, Room, Across}
-use Rattle.bylines.specs.Parts.{part, Division, Past}
+use Rattle.bylines.specs.Parts.{part, Division}
 use Rattle.bylines.specs.Cross.{crossLine, AcrossReady, AcrossLines}
-use Rattle.bylines.proofs.Parted.{Here, start-none, start-next, ends-within, lent-is, Front, Step, front-none, step, front-next, past-of, all-cells, same-parts}
+use Rattle.bylines.proofs.Parted.{Here, start-none, start-next, ends-within, lent-is, Front, front-none, step, front-next, past-of, all-cells, same-parts}
 use Rattle.bylines.proofs.Sizing.{lentItems, lent-items, Inside, inside-of, lent-even}
 
 -- ---- one line

@@ -7,14 +7,13 @@ use native.Mathlib.Nat.{eq-or-lt-of-le, le-of-suc-le-suc}
 use native.Mathlib.Omega.{arith}
 use lib.ListN.{length, getD, set, take, drop}
 use lib.Seq.{take-at, getD-at}
-use lib.Ieee.{Float, nan}
+use lib.Ieee.{Float}
 use borrow.Rule.Slice.PartMut.{midOf, mid-len}
 use Rattle.flexcalls.specs.Lines.{lineStart}
 use Rattle.crossaxis.specs.declared.container.Cross.{Cross}
 use Rattle.align.specs.Lists.{each, overwritten}
 use Rattle.crossaxis.specs.CrossSize.{Items, items, count, Even, lineOf}
 use Rattle.align.proofs.Each.{length-each, written-none, written-turn, written-length, written-all}
-use Rattle.bylines.specs.Parts.{part, Division}
 use Rattle.bylines.specs.Cross.{crossLine, SizesReady, crossSizes}
 use Rattle.bylines.proofs.Parted.{Here, start-none, start-next, ends-within, lent-is}
 

@@ -1,5 +1,5 @@
 -- The main axis, line by line: the walk over the lines; that its contract leaves no choice; and that a line depends on its own items alone. Assumes nothing.
-use mathlib.Core.Path.{_≡_, refl, sym, ap, ap₂, _∙_, subst}
+use mathlib.Core.Path.{_≡_, refl, sym, _∙_, subst}
 use mathlib.Core.Bool.{Bool}
 use mathlib.Core.List.{List, []}
 use Prim.Native.Nat.{ℕ, _+_, _-_, _≤_, _<_, zero-le}
@@ -11,9 +11,9 @@ use borrow.Rule.Slice.PartMut.{midOf, putMid, mid-len}
 use Rattle.flexcalls.specs.Lines.{lineStart}
 use Rattle.align.specs.declared.ContentAlignment.{ContentAlignment}
 use Rattle.mainaxis.specs.MainAxis.{Line, line, count, Even, Spaced}
-use Rattle.bylines.specs.Parts.{part, Division, Past}
+use Rattle.bylines.specs.Parts.{part, Division}
 use Rattle.bylines.specs.Main.{mainLine, MainReady, MainLines}
-use Rattle.bylines.proofs.Parted.{Here, start-none, start-next, ends-within, lent-is, Front, Step, front-none, step, front-next, past-of, all-cells, same-parts}
+use Rattle.bylines.proofs.Parted.{Here, start-none, start-next, ends-within, lent-is, Front, front-none, step, front-next, past-of, all-cells, same-parts}
 
 -- ---- one line
 

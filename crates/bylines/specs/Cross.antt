@@ -1,5 +1,4 @@
 -- Document 01, "Cross axis", line by line: each line's size from its own items, and its items across it. Assumes nothing.
-use mathlib.Core.Path.{_≡_}
 use mathlib.Core.Bool.{Bool}
 use mathlib.Core.List.{List, []}
 use Prim.Native.Nat.{ℕ, _≤_, _<_}

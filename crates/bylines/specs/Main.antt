@@ -1,5 +1,4 @@
 -- Document 01, "Main axis", line by line: each by its own items, as one line is. Assumes nothing.
-use mathlib.Core.Path.{_≡_}
 use mathlib.Core.Bool.{Bool}
 use mathlib.Core.List.{List, []}
 use Prim.Native.Nat.{ℕ, _≤_, _<_}

@@ -1,5 +1,4 @@
 // The items across their lines, line by line.
-ghost use mathlib.Core.Path.{_≡_};
 ghost use Rattle.crossaxis.specs.CrossSize.{items};
 ghost use Rattle.bylines.specs.Cross.{AcrossReady, AcrossLines};
 use crossaxis::cross_axis::place_items;

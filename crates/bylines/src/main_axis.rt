@@ -1,5 +1,4 @@
 // The main axis, line by line.
-ghost use mathlib.Core.Path.{_≡_};
 ghost use Rattle.mainaxis.specs.MainAxis.{line};
 ghost use Rattle.bylines.specs.Main.{MainReady, MainLines};
 use align::ContentAlignment;

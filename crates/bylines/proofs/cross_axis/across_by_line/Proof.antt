@@ -55,13 +55,13 @@ add-to : tie.Need-add-to Inv-loop μ-loop
 add-to c = omega (arith, turn (c .before) .inside .few)
 
 mul-place-items : tie.Need-mul-place-items Inv-loop μ-loop
-mul-place-items c = omega (arith, start-of (c .before .before) .good .1 .0 .1, c .before .loop-test .taken)
+mul-place-items c = omega (arith, start-of (c .before .before) .good .1 .0 .1, c .before .loop-test .taken, turn (c .before) .inside .few)
 
 shared-slice-read-place-items : tie.Need-shared-slice-read-place-items Inv-loop μ-loop
 shared-slice-read-place-items c =
     let i = c .before .before in
     let s = start-of (i .before) in
-    line-sized (s .args .reversed) (now (s .args .counts)) (now (s .args .line-sizes)) (items-of s) (now (s .args .alignment)) (now (s .args .auto-size)) (now (s .args .sizes)) (now (s .args .used-start)) (now (s .args .used-end)) (now (s .args .offsets)) (s .pre) (i .before .loop .inv) (i .loop-test .taken)
+    omega (arith, line-sized (s .args .reversed) (now (s .args .counts)) (now (s .args .line-sizes)) (items-of s) (now (s .args .alignment)) (now (s .args .auto-size)) (now (s .args .sizes)) (now (s .args .used-start)) (now (s .args .used-end)) (now (s .args .offsets)) (s .pre) (i .before .loop .inv) (i .loop-test .taken))
 
 mul-place-items-2 : tie.Need-mul-place-items-2 Inv-loop μ-loop
 mul-place-items-2 c = omega (arith, turn (c .before .before) .inside .few)

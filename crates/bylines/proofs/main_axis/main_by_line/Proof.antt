@@ -1,5 +1,4 @@
 -- `bylines::main_axis::main_by_line` meets its contract: the lines before this one are spaced. Assumes nothing.
-use mathlib.Core.Path.{sym, _∙_}
 use Prim.Native.Nat.{ℕ, _+_, _-_}
 use native.Mathlib.Omega.{arith}
 use lib.ListN.{length, getD}
