@@ -1,0 +1,22 @@
+-- Its numbers, read. Assumes nothing.
+use mathlib.Core.Path.{ap, _∙_}
+use Rattle.crossaxis.specs.Numbers.{crossOf}
+use borrow.Author.Needs.{needs}
+use Rattle.crossstage.proofs.cross_axis.Statement.{statement}
+use Rattle.crossstage.proofs.cross_axis.Tie as tie
+use Rattle.crossstage.proofs.cross_axis.Reads as reads
+use Rattle.crossstage.proofs.cross_axis.Lts as lts
+use Rattle.crossaxis.proofs.numbers.cross_of.Reads as cross-of-reads
+use Rattle.passchecks.proofs.cross_numbers.Reads as cross-numbers-reads
+
+cross-numbers-requires : tie.Need-cross-numbers-requires
+cross-numbers-requires c κs = search needs
+
+cross-of-requires : tie.Need-cross-of-requires
+cross-of-requires c κs = search needs
+
+returns : tie.Need-returns
+returns c = c .cross-of .ensures ∙ ap crossOf (c .before .cross-numbers .ensures)
+
+pub cross-axis-spec : {M : Type 1} → statement M
+cross-axis-spec = tie.close (tie.spec cross-numbers-requires cross-of-requires returns)
