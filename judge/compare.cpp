@@ -193,21 +193,27 @@ void print_smallest() {
 
 // What the Rust does with lists that document 01 refuses or reads otherwise: for docs/DIFFERENCES.md.
 void known_differences() {
-    const float holed[] = {50, NAN, 50, 10};
     uint32_t made[8];
     judge_breaking b{1, 1, 1, FRATOLIVEM_MAX_CONTENT, 0.0f, 0, 0.0f, 0, 0.0f, 0.0f, 1};
     judge_list *none = judge_items(nullptr, 0);
     std::printf("no items under max-content: the Rust makes %zu line(s) greedily, %zu balanced\n", judge_lines(0, &b, none, made),
                 judge_lines(1, &b, none, made));
     judge_drop(none);
-    // Balanced, the same list meets a debug assertion of the crate's, with which it is built here.
-    b.available_kind = FRATOLIVEM_DEFINITE, b.available = 150.0f;
-    judge_list *items = judge_items(holed, 4);
-    const std::size_t lines = judge_lines(0, &b, items, made);
-    judge_drop(items);
-    std::printf("50, NaN, 50, 10 at 150: the Rust's greedy counts are");
-    for (std::size_t i = 0; i < lines; i++) std::printf(" %u", made[i]);
-    std::printf("\n");
+    // D13. Balanced, a list with a NaN meets a debug assertion of the crate's, with which it is built here.
+    const auto divided = [&](const char *name, uint32_t balanced, const std::vector<float> &sizes) {
+        std::vector<uint32_t> cells(sizes.size() + 1);
+        b.available_kind = FRATOLIVEM_DEFINITE, b.available = 150.0f;
+        judge_list *items = judge_items(sizes.data(), sizes.size());
+        const std::size_t lines = judge_lines(balanced, &b, items, cells.data());
+        judge_drop(items);
+        std::printf("%s, limit 150: the Rust's %s lines are %zu, the first of %u\n", name, balanced ? "balanced" : "greedy", lines, cells[0]);
+    };
+    divided("NaN", 0, {NAN});
+    divided("50, NaN, 50, 10", 0, {50, NAN, 50, 10});
+    for (uint32_t balanced : {0u, 1u}) {
+        divided("0.01", balanced, {0.01f}), divided("262144.03125", balanced, {262144.03125f});
+        divided("1,025 items of 1", balanced, std::vector<float>(1025, 1.0f)), divided("200000, 200000", balanced, {200000, 200000});
+    }
     // D10: a host of ours cannot say `safe stretch`; code 11 says it to the Rust alone.
     judge_container c{};
     judge_item it{};
