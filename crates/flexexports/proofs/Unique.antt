@@ -18,7 +18,7 @@ use Rattle.flexexports.specs.Flexed.{cFlexed, FlexedFromC, FlexedLinesFr
 
 pub one-line : (inner gap : Float) (ls : Lists) (old : List Float) (r s : CFlexed) (a b : List Float) → FlexedFromC inner gap ls r old a → FlexedFromC inner gap ls s old b → (r ≡ s) × (a ≡ b)
 one-line inner gap ls old r s a b p q =
-    let d = line-determined inner gap ls old (p .inside) (q .inside) a b (p .flexed) (q .flexed) in
+    let d = line-determined _ _ ls old (p .inside) (q .inside) a b (p .flexed) (q .flexed) in
     (p .told ∙ ap (λ (x : FlexAnswer). cFlexed (valuesOf x)) (d .0) ∙ sym (q .told), d .1)
 
 pub one-by-line : (inner gap : Float) (counts : List ℕ) (ls : Lists) (targets₀ : List Float) (free₀ : List ℤ) (rounds₀ : List ℕ) (r s : CAnswer) (a b : List Float) (f g : List ℤ) (m n : List ℕ)
