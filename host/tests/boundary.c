@@ -73,6 +73,34 @@ static void refused(const char *name, fratolivem_answer a, uint32_t number, uint
 #define LIST(...) ((const float[]){__VA_ARGS__}), sizeof((const float[]){__VA_ARGS__}) / sizeof(float)
 #define COUNTS(...) ((const uint32_t[]){__VA_ARGS__}), sizeof((const uint32_t[]){__VA_ARGS__}) / sizeof(uint32_t)
 
+#define CODES(...) ((const uint32_t[]){__VA_ARGS__}), sizeof((const uint32_t[]){__VA_ARGS__}) / sizeof(uint32_t)
+#define ITEMS(has_second_maximum)                                                                                                       \
+    LIST(100, 100), LIST(0, 0), LIST(NAN, 120), CODES(0, has_second_maximum), LIST(0, 0), LIST(1, 3), LIST(1, 1), LIST(0, NAN),           \
+        LIST(0, 0), CODES(0, 1), CODES(0, 0)
+
+/* P10, P11 and a refusal, with a cell more on both sides of each lent list. */
+static void flexing(void) {
+    const uint32_t lines[] = {1, 1};
+    float targets[4] = {9, 9, 9, 9};
+    int32_t space[4] = {9, 9, 9, 9};
+    uint32_t rounds[4] = {9, 9, 9, 9};
+    fratolivem_flexed f = fratolivem_flex_line(300, 0, ITEMS(0), targets + 1, 2);
+    fratolivem_answer a;
+    expect(f.number == 0 && f.where == 0 && f.place == 0 && f.free == 6400 && f.rounds == 1, "P10");
+    expect(targets[0] == 9 && targets[1] == 125 && targets[2] == 175 && targets[3] == 9, "P10");
+    f = fratolivem_flex_line(300, 0, ITEMS(1), targets + 1, 2);
+    expect(f.number == 0 && f.free == 6400 && f.rounds == 2, "P11");
+    expect(targets[0] == 9 && targets[1] == 180 && targets[2] == 120 && targets[3] == 9, "P11");
+    f = fratolivem_flex_line(50, 0, ITEMS(2), targets + 1, 2);
+    expect(f.number == 5 && f.where == FRATOLIVEM_AT && f.place == 1 && f.free == 0 && f.rounds == 0, "a code of 2");
+    expect(targets[1] == 180 && targets[2] == 120, "a code of 2");
+    a = fratolivem_flex_lines(50, 0, lines, 2, ITEMS(1), targets + 1, 2, space + 1, 2, rounds + 1, 2);
+    expect(a.number == 0 && a.where == 0 && a.place == 0 && a.lines == 2 && a.rounds == 2, "two lines");
+    expect(targets[0] == 9 && targets[1] == 50 && targets[2] == 50 && targets[3] == 9, "two lines");
+    expect(space[0] == 9 && space[1] == -3200 && space[2] == -3200 && space[3] == 9, "two lines");
+    expect(rounds[0] == 9 && rounds[1] == 1 && rounds[2] == 1 && rounds[3] == 9, "two lines");
+}
+
 int main(void) {
     const float holed[] = {5, 6, NAN, 0.01f};
     fratolivem_answer a;
@@ -112,6 +140,8 @@ int main(void) {
     expect(l.number == 0 && l.kind == FRATOLIVEM_DEFINITE && l.limit == 120.0f, "break limit");
     l = fratolivem_break_limit(1, 0, 0, FRATOLIVEM_DEFINITE, 200, 0, NAN, 0, NAN);
     expect(l.number == 0 && l.kind == FRATOLIVEM_MAX_CONTENT && l.limit == 0.0f, "break limit of a column");
+
+    flexing();
 
     printf("boundary in C: %d facts compared, %d differences\n", done, bad);
     return bad ? 1 : 0;
