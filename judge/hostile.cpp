@@ -167,6 +167,15 @@ BreakingCall breaking_call(Draw &draw) {
     return b;
 }
 
+// Whether the cells are the division that the model makes, with 0 past its last line.
+bool divided(const BreakingCall &b, bool balanced, uint32_t lines) {
+    const model::Items items(b.kind, b.limit, b.gap, b.sizes, balanced);
+    const model::Counts counts = balanced ? model::balanced(items, b.minimum) : model::greedy(items);
+    bool same = lines == counts.size();
+    for (std::size_t i = 0; i < b.sizes.size(); i++) same = same && out_codes[1].data()[i] == (i < counts.size() ? counts[i] : 0);
+    return same;
+}
+
 void try_greedy(Draw &draw) {
     const BreakingCall b = breaking_call(draw);
     const std::size_t n = b.sizes.size();
@@ -174,6 +183,7 @@ void try_greedy(Draw &draw) {
     const auto a = fratolivem_greedy(b.kind, b.limit, b.gap, in_floats[0].data(), n, out_codes[1].data(), out_codes[1].size());
     const std::string line = Text("greedy").u(b.kind).f(b.limit).f(b.gap).list(b.sizes).u(out_codes[1].size()).answered(a.number, a.where, a.place);
     expect(in_floats[0].kept() && kept(out_codes[1], a.number == 0, n), "other cells were changed", line);
+    expect(a.number != 0 || divided(b, false, a.lines), "the answer is not the model's", line);
     expect(a.number == 0 || (a.lines == 0 && a.rounds == 0), "a refusal has lines or rounds", line);
 }
 
@@ -189,6 +199,7 @@ void try_balanced(Draw &draw) {
     const bool ok = a.number == 0;
     expect(in_floats[0].kept() && kept(out_codes[1], ok, n) && kept(out_codes[0], ok, m * m + 3 * m) && kept(out_doubles[0], ok, 3 * m),
            "other cells were changed", line);
+    expect(!ok || n > 100 || divided(b, true, a.lines), "the answer is not the model's", line);
     expect(!ok || (out_codes[0].zero_up_to(m * m + 3 * m) && out_doubles[0].zero_up_to(3 * m)), "work cells are not 0", line);
     expect(ok || (a.lines == 0 && a.rounds == 0), "a refusal has lines or rounds", line);
 }
@@ -215,6 +226,7 @@ void try_parts(Draw &draw) {
     for (int i = 1; i < 5; i++) same = same && kept(out_codes[i], ok, n), zero = zero && (i == 1 || !ok || out_codes[i].zero_up_to(n));
     for (auto &list : out_doubles) same = same && kept(list, ok, n), zero = zero && (!ok || list.zero_up_to(n));
     expect(same, "other cells were changed", line);
+    expect(!ok || n > 100 || divided(b, true, a.lines), "the answer is not the model's", line);
     expect(zero, "work cells are not 0", line);
 }
 
