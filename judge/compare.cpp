@@ -269,7 +269,6 @@ Case fixed_case(const char *text) {
 }
 
 void all_short() {
-    for (const char *text : fixed_cases) compare(fixed_case(text));
     for (std::size_t n = 1; n <= 3; n++) short_flex(n, compare);
     short_exact(compare);
     for (std::size_t n = 0; n <= 3; n++) short_main(n, compare), short_lines(n, compare);
@@ -347,6 +346,7 @@ int main(int argc, char **argv) {
     }
     for (int signal : {SIGABRT, SIGILL, SIGTRAP}) std::signal(signal, tell_case);
     std::printf("judge: seed %" PRIu64 ", %ld random cases of each stage\n", seed, cases);
+    for (const char *text : fixed_cases) compare(fixed_case(text));
     for (int s = 0; s < stage_count; s++) {
         Draw draw(seed + uint64_t(s));
         for (long i = 0; i < cases; i++) compare(draw.next(Stage(s)));
