@@ -1,0 +1,32 @@
+-- What a call inside leaves, with its answer told as it crosses, is what the exported call leaves. Assumes nothing.
+use mathlib.Core.Path.{_≡_, ap, _∙_}
+use mathlib.Core.List.{List}
+use Prim.Native.Nat.{ℕ}
+use lib.Ieee.{Float}
+use Rattle.refusal.specs.declared.Answer.{Answer}
+use Rattle.mainaxis.specs.MainCall as main
+use Rattle.crossaxis.specs.declared.numbers.CrossNumbers.{CrossNumbers}
+use Rattle.crossaxis.specs.CrossSize.{Items}
+use Rattle.crosscalls.specs.declared.size_call.SizeAnswer.{SizeAnswer}
+use Rattle.crosscalls.specs.declared.line_call.LinesAnswer.{LinesAnswer}
+use Rattle.crosscalls.specs.SizeCall as size
+use Rattle.crosscalls.specs.LineCall as lines
+use Rattle.crosscalls.specs.AcrossCall as across
+use Rattle.crossing.specs.declared.CAnswer.{CAnswer}
+use Rattle.crossing.specs.Crossing.{cAnswer}
+use Rattle.placeexports.specs.declared.CCross.{CCross}
+use Rattle.placeexports.specs.declared.CSized.{CSized}
+use Rattle.placeexports.specs.Placed.{numbersOf, cLine, cLines, cMain, mainFromC, cAligned, linesFromC, cAcross, acrossFromC}
+
+pub main-told : {r : CAnswer} {a : Answer} {o s e : List Float} {m : main.MainResult} → r ≡ cAnswer a → main.result a o s e ≡ m → cMain r o s e ≡ mainFromC m
+main-told {r} {a} {o} {s} {e} p q = ap (λ (x : CAnswer). cMain x o s e) p ∙ ap mainFromC q
+
+pub size-told : (c : CCross) (ls : Items) {n : CrossNumbers} {r : CSized} {a : SizeAnswer} → n ≡ numbersOf c → a ≡ size.sizeCall n ls → r ≡ cLine a → r ≡ cLine (size.sizeCall (numbersOf c) ls)
+size-told c ls p q t = t ∙ ap cLine (q ∙ ap (λ (n : CrossNumbers). size.sizeCall n ls) p)
+
+pub lines-told : (c : CCross) (k : ℕ) (l z₀ o₀ : List Float) {n : CrossNumbers} {r : CSized} {a : LinesAnswer} {z o : List Float} → n ≡ numbersOf c → lines.result a z o ≡ lines.linesCall n k l z₀ o₀ → r ≡ cLines a
+    → cAligned r z o ≡ linesFromC (lines.linesCall (numbersOf c) k l z₀ o₀)
+lines-told c k l z₀ o₀ {n} {r} {a} {z} {o} p q t = ap (λ (x : CSized). cAligned x z o) t ∙ ap linesFromC (q ∙ ap (λ (n : CrossNumbers). lines.linesCall n k l z₀ o₀) p)
+
+pub across-told : {r : CAnswer} {a : Answer} {z s e o : List Float} {l : across.AcrossResult} → r ≡ cAnswer a → across.result a z s e o ≡ l → cAcross r z s e o ≡ acrossFromC l
+across-told {r} {a} {z} {s} {e} {o} p q = ap (λ (x : CAnswer). cAcross x z s e o) p ∙ ap acrossFromC q
