@@ -27,7 +27,7 @@ pub fn cost(sums: &[f64], prev: &[f64], base: Units, end: usize) -> Score
 }
 
 // Whether a zero item follows the item `end`.
-pub fn zero_after(sums: &[f64], gap: Units, end: usize) -> bool
+fn zero_after(sums: &[f64], gap: Units, end: usize) -> bool
     requires { ⌜ end + 1 < length (now sums) ⌝ }
     ensures { λ r. ⌜ r ≡ zeroF (now (sums .entry)) (gap .0) end ⌝ }
 {
@@ -35,7 +35,7 @@ pub fn zero_after(sums: &[f64], gap: Units, end: usize) -> bool
 }
 
 // The first end from `from` on that no zero item follows, or where there is none below `stop`, the first past them.
-pub fn skip_zeros(sums: &[f64], gap: Units, from: usize, stop: usize) -> usize
+fn skip_zeros(sums: &[f64], gap: Units, from: usize, stop: usize) -> usize
     requires { ⌜ stop < length (now sums) ⌝ }
     ensures { λ r. ⌜ FirstPlain (now (sums .entry)) (gap .0) from stop r ⌝ }
 {
@@ -51,7 +51,7 @@ pub fn skip_zeros(sums: &[f64], gap: Units, from: usize, stop: usize) -> usize
 }
 
 // Whether `end`, at this cost, is taken before an earlier end that costs `least`.
-pub fn beats(sums: &[f64], gap: Units, end: usize, cost: Score, least: Score) -> bool
+fn beats(sums: &[f64], gap: Units, end: usize, cost: Score, least: Score) -> bool
     requires { ⌜ end + 1 < length (now sums) ⌝ }
     ensures { λ r. ⌜ r ≡ cond (zeroF (now (sums .entry)) (gap .0) end) false (le (cost .0) (least .0)) ⌝ }
 {
@@ -63,14 +63,7 @@ pub fn beats(sums: &[f64], gap: Units, end: usize, cost: Score, least: Score) ->
 }
 
 // The last of the cheapest ends from `first` up to `stop` that no zero item follows. None follows `first`.
-pub fn least(
-    sums: &[f64],
-    gap: Units,
-    prev: &[f64],
-    base: Units,
-    first: usize,
-    stop: usize,
-) -> usize
+fn least(sums: &[f64], gap: Units, prev: &[f64], base: Units, first: usize, stop: usize) -> usize
     requires { ⌜ (length (now sums) ≡ length (now prev)) × (first < stop) × (stop < length (now prev)) × (zeroF (now sums) (gap .0) first ≡ false) ⌝ }
     ensures { λ r. ⌜ LeastOf (now (sums .entry)) (gap .0) (now (prev .entry)) (base .0) first stop r ⌝ }
 {
@@ -89,7 +82,7 @@ pub fn least(
 }
 
 // `near`, the choice among the ends that no zero item follows, or `far`, the longest line, where a zero item follows that and it costs no more.
-pub fn choose(sums: &[f64], gap: Units, prev: &[f64], base: Units, near: usize, far: usize) -> usize
+fn choose(sums: &[f64], gap: Units, prev: &[f64], base: Units, near: usize, far: usize) -> usize
     requires { ⌜ (length (now sums) ≡ length (now prev)) × (near + 1 < length (now prev)) × (far + 1 < length (now prev)) ⌝ }
     ensures { λ r. ⌜ r ≡ chooseF (now (sums .entry)) (gap .0) (now (prev .entry)) (base .0) near far ⌝ }
 {

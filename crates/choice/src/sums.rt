@@ -8,7 +8,7 @@ ghost use mathlib.Core.Path.{_≡_};
 pub struct Units(pub f64);
 
 // The sum of the items before `start`, each with its gap.
-pub fn before(sums: &[f64], start: usize) -> f64
+fn before(sums: &[f64], start: usize) -> f64
     requires { ⌜ start ≤ length (now sums) ⌝ }
     ensures { λ r. ⌜ r ≡ beforeF (now (sums .entry)) start ⌝ }
 {

@@ -7,7 +7,7 @@ use native.Mathlib.Omega.{arith}
 use lib.ListN.{length, take, replicate}
 use lib.Seq.{length-take-le}
 use lib.Ieee.{Float}
-use Rattle.rows.specs.Pixels.{AddOut}
+use Rattle.fitting.specs.Pixels.{AddOut}
 use Rattle.counts.specs.Run.{BalanceIn, BalanceOut, RunIn, RunOut}
 
 abbrev pub run-in : (sizes : List Float) (gap : Float) (bounded : Bool) (limit : Float) (sums : List Float) → AddOut sizes gap sums → RunIn sizes gap bounded limit → BalanceIn sums gap bounded limit

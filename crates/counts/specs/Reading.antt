@@ -6,7 +6,7 @@ use lib.ListN.{length, take}
 use Rattle.rule.specs.Dp.{Feas, Laws, BestAt}
 use Rattle.rule.specs.Sizes.{squareAt, ZeroAt}
 use Rattle.choice.specs.Cells.{ends}
-use Rattle.rows.specs.Tables.{Reaches}
+use Rattle.fitting.specs.Tables.{Reaches}
 use Rattle.rows.specs.Program.{counted, RowKept}
 
 -- the choices in `opts` are those of some items, for every row up to K lines, and K lines are possible

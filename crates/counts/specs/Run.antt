@@ -6,8 +6,8 @@ use Prim.Native.Nat.{ℕ, _-_, _≤_}
 use lib.ListN.{length, take, replicate}
 use lib.Ieee.{Float}
 use Rattle.rule.specs.Natural.{Limit, Balanced}
-use Rattle.rows.specs.Tables.{SumsAre, LimitIs}
-use Rattle.rows.specs.Pixels.{SizesAre}
+use Rattle.fitting.specs.Tables.{SumsAre, LimitIs}
+use Rattle.fitting.specs.Pixels.{SizesAre}
 
 -- of the sums
 pub record BalanceIn (sums : List Float) (gap : Float) (bounded : Bool) (limit : Float) : Type 0 where

@@ -13,13 +13,13 @@ use choice::cells::at;
 use choice::cells::larger;
 use choice::cells::smaller;
 use choice::sums::Units;
+use fitting::Cap;
+use fitting::fit_ends;
+use fitting::forward;
+use fitting::pixels::add_up;
+use fitting::suffix_greedy;
 use rows::first_row;
-use rows::pixels::add_up;
 use rows::rows;
-use rows::tables::Cap;
-use rows::tables::fit_ends;
-use rows::tables::forward;
-use rows::tables::suffix_greedy;
 
 // Reads the division out of the rows' choices, front to back.
 fn read_back(opts: &[u32], counts: &mut [u32], n: usize, line_count: usize)

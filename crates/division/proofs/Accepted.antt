@@ -19,14 +19,14 @@ use Rattle.breaking.specs.Breaking.{definite, limitOf}
 use Rattle.breaking.specs.Calls.{units, outerSum}
 use Rattle.breaking.specs.Steps.{Breakable, LengthLimit}
 use Rattle.rule.specs.Sizes.{pre}
-use Rattle.rows.specs.Pixels.{scaledF, SizeIs, SizeOut, SizesAre}
-use Rattle.rows.specs.Tables.{LimitIs}
+use Rattle.fitting.specs.Pixels.{scaledF, SizeIs, SizeOut, SizesAre}
+use Rattle.fitting.specs.Tables.{LimitIs}
 use Rattle.rule.specs.Natural.{natural}
 use Rattle.counts.specs.Run.{RunIn, RunOut}
 use Rattle.division.specs.Divided.{Divided}
 use Rattle.rule.proofs.SizesLaws.{pre-step}
-use Rattle.rows.proofs.PixelsLaws.{limit-pixels}
-use Rattle.rows.proofs.TablesLaws.{limit-max, limit-definite}
+use Rattle.fitting.proofs.PixelsLaws.{limit-pixels}
+use Rattle.fitting.proofs.TablesLaws.{limit-max, limit-definite}
 use Rattle.rule.proofs.Bridge.{size, balanced-is, none-balanced}
 
 -- ---- one length

@@ -7,15 +7,15 @@ ghost use lib.Ieee.{binary64, ofBits};
 ghost use Rattle.breaking.specs.Breaking.{limitOf};
 ghost use Rattle.breaking.specs.Steps.{Breakable, LengthLimit};
 ghost use Rattle.rule.specs.Natural.{natural};
-ghost use Rattle.rows.specs.Tables.{LimitIs};
+ghost use Rattle.fitting.specs.Tables.{LimitIs};
 ghost use Rattle.division.specs.Divided.{Divided, Cleared, ClearedF};
 use breaking::AvailableSpace;
 use breaking::clear_counts;
 use choice::sums::Units;
 use counts::counts_of_sizes;
-use rows::pixels::to_size;
-use rows::pixels::to_units;
-use rows::tables::Cap;
+use fitting::Cap;
+use fitting::pixels::to_size;
+use fitting::pixels::to_units;
 
 // Sets all cells to 0.
 fn clear_floats(a: &mut [f64])

@@ -18,7 +18,7 @@ use Rattle.choice.specs.Whole.{Holds}
 use Rattle.choice.proofs.WholeLaws.{whole-is, mul-holds}
 use Rattle.choice.specs.Cells.{sizeF, Ghost, ends, value, Ready, RowIn, Choice, CoversIn, Safe, EndsFeas, RowOut}
 use Rattle.choice.proofs.Steps.{size-holds, small-square, row-laws}
-use Rattle.rows.specs.Tables.{SumsAre, Falling, Reaches, FirstFor}
+use Rattle.fitting.specs.Tables.{SumsAre, Falling, Reaches, FirstFor}
 use Rattle.rows.specs.Program.{counted, TablesAre, Within, PrevIs, RowSafe, RowFor, OneRow, RowKept, RowsSoFar, RowBase}
 
 -- the next line starts at an end that the line may have

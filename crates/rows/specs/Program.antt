@@ -9,7 +9,7 @@ use Rattle.rule.specs.Dp.{Argmin, Feas, Usable, Costs}
 use Rattle.rule.specs.Sizes.{squareAt, FitEnd, GreedyCounts, ZeroAt}
 use Rattle.choice.specs.Whole.{Holds}
 use Rattle.choice.specs.Cells.{Ghost, ends, value, RowIn, Choice}
-use Rattle.rows.specs.Tables.{SumsAre, FitRange, Falling, Reaches}
+use Rattle.fitting.specs.Tables.{SumsAre, FitRange, Falling, Reaches}
 
 abbrev pub counted : List ℕ → ℕ → ℕ
 counted greedy s = getD greedy s 0

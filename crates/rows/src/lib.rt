@@ -4,7 +4,7 @@ ghost use Prim.Native.Nat.{ℕ, _+_, _-_, _*_, _≤_, _<_};
 ghost use lib.ListN.{length, getD};
 ghost use lib.Ieee.{binary64, mul, nan};
 ghost use Rattle.choice.specs.Cells.{sizeF, Safe, RowOut};
-ghost use Rattle.rows.specs.Tables.{Falling, FirstFor};
+ghost use Rattle.fitting.specs.Tables.{Falling, FirstFor};
 ghost use Rattle.rows.specs.Program.{RowSafe, RowBase, OneRow, RowsSoFar};
 ghost use mathlib.Core.Path.{_≡_};
 use choice::cells::at;
@@ -17,12 +17,9 @@ use choice::sums::Units;
 use choice::sums::base;
 use choice::sums::line_size;
 
-pub mod pixels;
-pub mod tables;
-
 // Fills the starts from `lo` up to `hi` of a row: the middle one by its choice, and the two halves by calls of itself, each with the ends
 // that its starts may still need, of those from `from` up to `to`. No line ends past `last`.
-pub fn fill_row<'a>(
+fn fill_row<'a>(
     sums: &'a [f64],
     gap: Units,
     fit: &'a [u32],
@@ -73,7 +70,7 @@ pub fn first_row(sums: &[f64], gap: Units, prev: &mut [f64])
 }
 
 // Copies the cells from `lo` up to `hi`.
-pub fn copy_row(to: &mut [f64], from: &[f64], lo: usize, hi: usize)
+fn copy_row(to: &mut [f64], from: &[f64], lo: usize, hi: usize)
     requires { ⌜ (length (now to) ≡ length (now from)) × (hi ≤ length (now from)) ⌝ }
     ensures { λ _. ⌜ ((s : ℕ) → lo ≤ s → s < hi → getD (now (to .exit)) s nan ≡ getD (now (from .entry)) s nan) ⌝ }
 {
@@ -85,7 +82,7 @@ pub fn copy_row(to: &mut [f64], from: &[f64], lo: usize, hi: usize)
 }
 
 // The first start whose items greedy breaking puts on at most `lines` lines. `from` is such a start, or past the last.
-pub fn first_start(greedy: &[u32], from: usize, lines: usize) -> usize
+fn first_start(greedy: &[u32], from: usize, lines: usize) -> usize
     requires { ⌜ Falling (now greedy) × (from ≤ length (now greedy)) × (getD (now greedy) from 0 ≤ lines) ⌝ }
     ensures { λ r. ⌜ FirstFor (now (greedy .entry)) lines r × (r ≤ from) ⌝ }
 {
@@ -100,7 +97,7 @@ pub fn first_start(greedy: &[u32], from: usize, lines: usize) -> usize
 }
 
 // One row: the starts from `start_lo` to `last`, divided into `lines` lines. What follows their first lines starts at `seen` or later.
-pub fn one_row<'a>(
+fn one_row<'a>(
     sums: &'a [f64],
     gap: Units,
     fit: &'a [u32],

@@ -4,3 +4,4 @@ pub mod EndsLaws
 pub mod SizesLaws
 pub mod Exists
 pub mod Bridge
+pub mod Zeros

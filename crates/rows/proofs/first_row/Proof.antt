@@ -5,7 +5,7 @@ use native.Mathlib.Omega.{arith}
 use lib.ListN.{length, length-set}
 use lib.Ieee.{mul, binary64}
 use Rattle.choice.specs.Cells.{sizeF}
-use Rattle.rows.proofs.TablesLaws.{Filled, filled-more}
+use Rattle.fitting.proofs.TablesLaws.{Filled, filled-more}
 use Rattle.rows.proofs.first_row.Statement.{statement}
 use Rattle.rows.proofs.first_row.Tie as tie
 

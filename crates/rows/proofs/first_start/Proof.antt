@@ -3,7 +3,7 @@ use Prim.Native.Nat.{_≤_}
 use native.Mathlib.Nat.{le-refl}
 use native.Mathlib.Omega.{arith}
 use lib.ListN.{getD}
-use Rattle.rows.proofs.TablesLaws.{first-stop}
+use Rattle.fitting.proofs.TablesLaws.{first-stop}
 use Rattle.rows.proofs.first_start.Statement.{statement}
 use Rattle.rows.proofs.first_start.Tie as tie
 

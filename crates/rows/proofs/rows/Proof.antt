@@ -6,7 +6,7 @@ use native.Mathlib.Nat.{zero-mul}
 use native.Mathlib.Omega.{arith}
 use lib.ListN.{length, getD, length-take, length-drop, List·getD-eq-default}
 use borrow.Rule.Slice.PartMut.{putMid, postOf, same-len-mid}
-use Rattle.rows.specs.Tables.{FirstFor}
+use Rattle.fitting.specs.Tables.{FirstFor}
 use Rattle.rows.proofs.ProgramLaws.{RowsInv, rows-start, rows-more, row-fits, row-small, row-next, safe-at, mid-here, mid-before}
 use Rattle.rows.proofs.rows.Statement.{statement}
 use Rattle.rows.proofs.rows.Tie as tie

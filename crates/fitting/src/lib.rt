@@ -1,7 +1,7 @@
 // The tables that the rows are worked out from: where the longest line from each start ends, how many lines greedy breaking makes of the items
-// from each start on, and how far the first lines reach.
+// from each start on, and how far the first lines reach. Parts of balanced breaking, behind its checks: no entry points.
 ghost use lib.ListN.{length, getD};
-ghost use Rattle.rows.specs.Tables.{fitsF, StretchOut, FitsOut, FitRange, CountsFrom, Rising, Reaches};
+ghost use Rattle.fitting.specs.Tables.{fitsF, StretchOut, FitsOut, FitRange, CountsFrom, Rising, Reaches};
 ghost use mathlib.Core.Path.{_≡_};
 ghost use Prim.Native.Nat.{_+_, _≤_, _<_};
 use choice::cells::at;
@@ -10,6 +10,8 @@ use choice::cells::or_zero;
 use choice::sums::Units;
 use choice::sums::line_size;
 
+pub mod pixels;
+
 // A limit as the tables take it: the most that a line of several items may measure, and whether there is any such bound.
 pub struct Cap {
     pub bounded: bool,
@@ -17,7 +19,7 @@ pub struct Cap {
 }
 
 // Whether a line of several items, of this size, fits.
-pub fn fits(limit: Cap, size: Units) -> bool
+fn fits(limit: Cap, size: Units) -> bool
     ensures { λ r. ⌜ r ≡ fitsF (limit .bounded) (limit .most .0) (size .0) ⌝ }
 {
     if limit.bounded {
@@ -28,7 +30,7 @@ pub fn fits(limit: Cap, size: Units) -> bool
 }
 
 // How far a line from `start` that reaches `from` stretches.
-pub fn stretch(sums: &[f64], gap: Units, limit: Cap, start: usize, from: usize) -> usize
+fn stretch(sums: &[f64], gap: Units, limit: Cap, start: usize, from: usize) -> usize
     requires { ⌜ (start ≤ from) × (from < length (now sums)) ⌝ }
     ensures { λ r. ⌜ StretchOut (now (sums .entry)) (gap .0) (limit .bounded) (limit .most .0) start from r ⌝ }
 {
@@ -74,7 +76,7 @@ pub fn suffix_greedy(fit: &[u32], greedy: &mut [u32])
 }
 
 // Where the longest line from `start` ends: the next start. At the last item's end there is no line.
-pub fn past(fit: &[u32], start: usize) -> usize
+fn past(fit: &[u32], start: usize) -> usize
     requires { ⌜ (length (now fit) ≤ 1024) × FitRange (now fit) ⌝ }
     ensures { λ r. ⌜ (start < length (now (fit .entry)) → r ≡ getD (now (fit .entry)) start 0 + 1) × (length (now (fit .entry)) ≤ start → r ≡ start) ⌝ }
 {

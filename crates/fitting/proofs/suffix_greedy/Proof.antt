@@ -1,12 +1,12 @@
--- `rows::tables::suffix_greedy` meets its contract: the counts from `start` on are right, since a line ends after it starts (`counts-more` of TablesLaws.antt). Assumes nothing.
+-- `fitting::suffix_greedy` meets its contract: the counts from `start` on are right, since a line ends after it starts (`counts-more` of TablesLaws.antt). Assumes nothing.
 use mathlib.Core.Path.{_≡_}
 use Prim.Native.Nat.{_+_, _-_, _≤_}
 use native.Mathlib.Omega.{arith}
 use lib.ListN.{length, length-set}
-use Rattle.rows.specs.Tables.{CountsFrom}
-use Rattle.rows.proofs.TablesLaws.{counts-start, counts-more}
-use Rattle.rows.proofs.tables.suffix_greedy.Statement.{statement}
-use Rattle.rows.proofs.tables.suffix_greedy.Tie as tie
+use Rattle.fitting.specs.Tables.{CountsFrom}
+use Rattle.fitting.proofs.TablesLaws.{counts-start, counts-more}
+use Rattle.fitting.proofs.suffix_greedy.Statement.{statement}
+use Rattle.fitting.proofs.suffix_greedy.Tie as tie
 
 abbrev Inv-loop : tie.InvT-loop
 Inv-loop fit greedy₀ start₀ greedy start = (length greedy ≡ length fit) × (start ≤ length fit) × CountsFrom fit greedy start

@@ -1,8 +1,8 @@
--- `rows::tables::past` meets its contract: by whether there is a line. Assumes nothing.
+-- `fitting::past` meets its contract: by whether there is a line. Assumes nothing.
 use native.Mathlib.Omega.{arith}
 use borrow.Author.Needs.{needs}
-use Rattle.rows.proofs.tables.past.Statement.{statement}
-use Rattle.rows.proofs.tables.past.Tie as tie
+use Rattle.fitting.proofs.past.Statement.{statement}
+use Rattle.fitting.proofs.past.Tie as tie
 
 at-requires : tie.Need-at-requires
 at-requires c κs = search needs

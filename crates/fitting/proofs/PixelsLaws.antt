@@ -20,9 +20,9 @@ use Rattle.breaking.specs.Breaking as limit
 use Rattle.choice.specs.Whole.{Holds}
 use Rattle.rule.specs.Natural.{natural}
 use Rattle.rule.proofs.SizesLaws.{pre-step, pre-mono}
-use Rattle.rows.specs.Tables.{LimitIs}
-use Rattle.rows.proofs.TablesLaws.{SumsSoFar, sums-more, limit-definite}
-use Rattle.rows.specs.Pixels.{scaledF, SizeIs, SizeOut, SizesAre, AddOut}
+use Rattle.fitting.specs.Tables.{LimitIs}
+use Rattle.fitting.proofs.TablesLaws.{SumsSoFar, sums-more, limit-definite}
+use Rattle.fitting.specs.Pixels.{scaledF, SizeIs, SizeOut, SizesAre, AddOut}
 
 abbrev pub sixty-four : Float
 sixty-four = fin false 1 (pos 6)

@@ -1,11 +1,11 @@
--- `rows::tables::forward` meets its contract: no line after the first i starts past `start` (`reach-more` of TablesLaws.antt). Assumes nothing.
+-- `fitting::forward` meets its contract: no line after the first i starts past `start` (`reach-more` of TablesLaws.antt). Assumes nothing.
 use mathlib.Core.Path.{_≡_, refl}
 use Prim.Native.Nat.{_-_}
 use native.Mathlib.Omega.{arith}
 use lib.ListN.{length, length-set}
-use Rattle.rows.proofs.TablesLaws.{ReachSoFar, reach-start, reach-more, reach-end}
-use Rattle.rows.proofs.tables.forward.Statement.{statement}
-use Rattle.rows.proofs.tables.forward.Tie as tie
+use Rattle.fitting.proofs.TablesLaws.{ReachSoFar, reach-start, reach-more, reach-end}
+use Rattle.fitting.proofs.forward.Statement.{statement}
+use Rattle.fitting.proofs.forward.Tie as tie
 
 abbrev Inv-loop : tie.InvT-loop
 Inv-loop fit reach₀ start₀ i₀ reach start i = (length reach ≡ length reach₀) × ReachSoFar fit reach start i

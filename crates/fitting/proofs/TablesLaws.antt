@@ -24,7 +24,7 @@ use Rattle.choice.specs.Whole.{Holds}
 use Rattle.choice.proofs.WholeLaws.{holds-at, add-holds}
 use Rattle.choice.specs.Cells.{sizeF, ends}
 use Rattle.choice.proofs.Steps.{size-holds}
-use Rattle.rows.specs.Tables.{fitsF, LimitIs, SumsAre, StretchOut, CountsFrom, FitRange, Rising, Falling, Reaches, FirstFor}
+use Rattle.fitting.specs.Tables.{fitsF, LimitIs, SumsAre, StretchOut, CountsFrom, FitRange, Rising, Falling, Reaches, FirstFor}
 
 pub limit-max : (x : Float) → LimitIs max-content false x
 limit-max x = record { yes-fits = λ y a h t. tt; no-fit = λ y a h t. absurd (true≢false t) }

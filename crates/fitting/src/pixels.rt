@@ -5,7 +5,7 @@ ghost use Prim.Native.Nat.{ℕ, _≤_, _<_};
 ghost use lib.Dec.{T};
 ghost use lib.ListN.{length, getD};
 ghost use lib.Ieee.{isNan, nan};
-ghost use Rattle.rows.specs.Pixels.{scaledF, SizeOut, AddOut};
+ghost use Rattle.fitting.specs.Pixels.{scaledF, SizeOut, AddOut};
 use choice::sums::Units;
 
 // A length in pixels as sixty-fourths: exact, since an `f64` has room for every one.

@@ -9,7 +9,7 @@ use lib.Ieee.{Float, nan, binary64, mul, ofBits}
 use lib.Ieee.Exact.{HasValue}
 use Rattle.choice.specs.Whole.{Holds}
 use Rattle.rule.specs.Sizes.{pre}
-use Rattle.rows.specs.Tables.{SumsAre}
+use Rattle.fitting.specs.Tables.{SumsAre}
 
 -- v times 64, as the machine has it
 abbrev pub scaledF : Float → Float

@@ -1,11 +1,11 @@
--- `rows::tables::fit_ends` meets its contract: the ends before `start` are fit ends, and the next is no sooner (`fit-more` of TablesLaws.antt). Assumes nothing.
+-- `fitting::fit_ends` meets its contract: the ends before `start` are fit ends, and the next is no sooner (`fit-more` of TablesLaws.antt). Assumes nothing.
 use mathlib.Core.Path.{_≡_, refl}
 use Prim.Native.Nat.{_-_, _≤_}
 use native.Mathlib.Omega.{arith}
 use lib.ListN.{length, length-set}
-use Rattle.rows.proofs.TablesLaws.{FitSoFar, fit-start, fit-more}
-use Rattle.rows.proofs.tables.fit_ends.Statement.{statement}
-use Rattle.rows.proofs.tables.fit_ends.Tie as tie
+use Rattle.fitting.proofs.TablesLaws.{FitSoFar, fit-start, fit-more}
+use Rattle.fitting.proofs.fit_ends.Statement.{statement}
+use Rattle.fitting.proofs.fit_ends.Tie as tie
 
 abbrev Inv-loop : tie.InvT-loop
 Inv-loop sums gap limit fit₀ start₀ end₀ fit start end = (length fit ≡ length fit₀) × (start ≤ length sums) × FitSoFar sums (gap .0) (limit .bounded) (limit .most .0) fit start end

@@ -1,7 +1,7 @@
--- `rows::tables::fits` meets its contract: by the two ways of its test. Assumes nothing.
+-- `fitting::fits` meets its contract: by the two ways of its test. Assumes nothing.
 use borrow.Author.Needs.{needs}
-use Rattle.rows.proofs.tables.fits.Statement.{statement}
-use Rattle.rows.proofs.tables.fits.Tie as tie
+use Rattle.fitting.proofs.fits.Statement.{statement}
+use Rattle.fitting.proofs.fits.Tie as tie
 
 returns : tie.Need-returns
 returns c = rw (c .before .before .if1 .taken)

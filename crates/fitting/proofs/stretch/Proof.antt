@@ -1,13 +1,13 @@
--- `rows::tables::stretch` meets its contract: the line fits as far as it was stretched. Assumes nothing.
+-- `fitting::stretch` meets its contract: the line fits as far as it was stretched. Assumes nothing.
 use mathlib.Core.Path.{refl, sym, _∙_}
 use mathlib.Core.Logic.{inl, inr}
 use Prim.Native.Nat.{_-_}
 use native.Mathlib.Nat.{le-refl}
 use native.Mathlib.Omega.{arith}
 use lib.ListN.{length}
-use Rattle.rows.specs.Tables.{Stretched}
-use Rattle.rows.proofs.tables.stretch.Statement.{statement}
-use Rattle.rows.proofs.tables.stretch.Tie as tie
+use Rattle.fitting.specs.Tables.{Stretched}
+use Rattle.fitting.proofs.stretch.Statement.{statement}
+use Rattle.fitting.proofs.stretch.Tie as tie
 
 abbrev Inv-loop : tie.InvT-loop
 Inv-loop sums gap limit start from end₀ end = Stretched sums (gap .0) (limit .bounded) (limit .most .0) start from end

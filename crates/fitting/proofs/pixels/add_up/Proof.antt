@@ -1,11 +1,11 @@
--- `rows::pixels::add_up` meets its contract: `acc` is the sum of the items before i (PixelsLaws.antt). Assumes nothing.
+-- `fitting::pixels::add_up` meets its contract: `acc` is the sum of the items before i (PixelsLaws.antt). Assumes nothing.
 use mathlib.Core.Path.{_≡_, refl, _∙_}
 use Prim.Native.Nat.{_-_}
 use native.Mathlib.Omega.{arith}
 use lib.ListN.{length, length-set}
-use Rattle.rows.proofs.PixelsLaws.{AddSoFar, add-start, add-more, add-end}
-use Rattle.rows.proofs.pixels.add_up.Statement.{statement}
-use Rattle.rows.proofs.pixels.add_up.Tie as tie
+use Rattle.fitting.proofs.PixelsLaws.{AddSoFar, add-start, add-more, add-end}
+use Rattle.fitting.proofs.pixels.add_up.Statement.{statement}
+use Rattle.fitting.proofs.pixels.add_up.Tie as tie
 
 abbrev Inv-loop : tie.InvT-loop
 Inv-loop sizes gap sums₀ acc₀ i₀ sums acc i = (length sums ≡ length sums₀) × AddSoFar sizes (gap .0) sums acc i

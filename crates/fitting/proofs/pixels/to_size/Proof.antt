@@ -1,8 +1,8 @@
--- `rows::pixels::to_size` meets its contract: by the two ways of its test. Assumes nothing.
+-- `fitting::pixels::to_size` meets its contract: by the two ways of its test. Assumes nothing.
 use borrow.Author.Needs.{needs}
-use Rattle.rows.proofs.PixelsLaws.{size-above, size-below}
-use Rattle.rows.proofs.pixels.to_size.Statement.{statement}
-use Rattle.rows.proofs.pixels.to_size.Tie as tie
+use Rattle.fitting.proofs.PixelsLaws.{size-above, size-below}
+use Rattle.fitting.proofs.pixels.to_size.Statement.{statement}
+use Rattle.fitting.proofs.pixels.to_size.Tie as tie
 
 to-units-requires : tie.Need-to-units-requires
 to-units-requires c κs = search needs

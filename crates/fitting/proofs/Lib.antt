@@ -1,0 +1,2 @@
+pub mod TablesLaws
+pub mod PixelsLaws
