@@ -1,4 +1,5 @@
 // What both axes share: gaps, margins that may be auto, and offsets in the order of the walk.
+// No entry points: the lists are of one length, there is room, and there are few items, which checks 1 and 2 have shown.
 ghost use mathlib.Core.Path.{_≡_};
 ghost use Prim.Native.Nat.{_≤_, _<_};
 ghost use lib.ListN.{length};

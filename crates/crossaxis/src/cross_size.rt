@@ -68,7 +68,7 @@ fn read_item(it: CrossItem) -> CrossItem
     }
 }
 
-// Item i of the lists.
+// Item i of the lists: no entry point, since they are of one length, and longer than i.
 pub fn item_at<'a>(
     measured: &'a [f32],
     minimum: &'a [f32],
