@@ -26,8 +26,8 @@ use Rattle.align.specs.Align.{fallback, madeSafe, positioned, firstOffset, late
 use Rattle.align.specs.Axis as axis
 use Rattle.align.specs.Lists.{total, each, overwritten}
 use Rattle.mainaxis.specs.MainAxis as main
-use Rattle.crossaxis.specs.Container.{readCross, bounded}
-use Rattle.crossaxis.specs.Lines.{gainTo, gain, grown, grownAt, lineGain}
+use Rattle.crossaxis.specs.Container.{readCross, bounded, isReversed}
+use Rattle.crossaxis.specs.Lines.{gainTo, gain, grown, grownAt, lineGain, containerSize, freeCross, Aligned}
 use Rattle.table.specs.Table.{px, float, flexible, none, half, Row, table, onto, container, Plain, Holds, Every}
 use Rattle.table.specs.Table as row
 use Rattle.table.proofs.Check.{Case, caseB, case-by-test}
@@ -114,7 +114,8 @@ ten = main.line (map float (10 ∷ 10 ∷ 10 ∷ [])) (map float (0 ∷ 0 ∷ 0 
 abbrev grownOf : List ℕ → ℕ → ℕ → ℕ → Float
 grownOf lines gap size = grownAt (lineGain (readCross (container gap size)) (Spread Stretch) (map float lines)) (map float lines)
 
-stretches : (lines : List ℕ) (gap size : ℕ) (sizes : List ℕ) → each (length (map float lines)) (grownOf lines gap size) ≡ map float sizes → length sizes ≡ length (map float lines) → Holds (row.stretched lines gap size sizes)
+stretches : (lines : List ℕ) (gap size : ℕ) (sizes : List ℕ) → each (length (map float lines)) (grownOf lines gap size) ≡ map float sizes → length sizes ≡ length (map float lines)
+    → (s o s₁ o₁ : List Float) (inner : Float) → Aligned (container gap size) (Spread Stretch) (map float lines) s o inner s₁ o₁ → s₁ ≡ onto sizes s
 stretches lines gap size sizes h m s o s₁ o₁ inner p =
     p .sizes-are ∙ ap (λ (a : List Float). a ++ drop (length (map float lines)) s) h ∙ ap (λ (k : ℕ). map float sizes ++ drop k s) (sym m)
 
@@ -132,8 +133,24 @@ holds : (r : Row) → Computes r → Holds r
 holds (row.balanced sizes l gap minimum counts) t = balances sizes l gap minimum counts (t .0) (t .1)
 holds (row.greedily sizes l gap counts) t = t
 holds (row.flexed inner items sizes rounds) t = flexes inner items sizes rounds t
-holds (row.spaced n free gap keyword offsets) t = (t .0, spaces n free gap keyword offsets (t .1) (t .2))
-holds (row.stretched lines gap size sizes) t = stretches lines gap size sizes (t .0) (t .1)
+holds (row.spaced n free gap keyword offsets) t = (
+  t .0,
+  λ inner l q o s e.
+      let only : (o₁ s₁ e₁ : List Float) → main.Spaced inner (float gap) (Spread keyword) false l o s e o₁ s₁ e₁ → o₁ ≡ onto offsets o = λ o₁ s₁ e₁ p. spaces n free gap keyword offsets (t .1) (t .2) inner l q o s e o₁ s₁ e₁ p in
+      let share = main.autoShare (main.freeSpace inner (float gap) l) (main.autoCount l) in
+      let o₁ = overwritten (main.count l) (offsetsOf (main.count l) (main.freeSpace inner (float gap) l) (main.autoCount l) gap keyword) o in
+      let s₁ = overwritten (main.count l) (axis.marginAt share (l .auto-start) (l .start)) s in
+      let e₁ = overwritten (main.count l) (axis.marginAt share (l .auto-end) (l .end)) e in
+      ((s₁, e₁, record { offsets-are = sym (only o₁ s₁ e₁ (record { offsets-are = refl; starts-are = refl; ends-are = refl })); starts-are = refl; ends-are = refl }), only),
+)
+holds (row.stretched lines gap size sizes) t = λ s o.
+    let c = readCross (container gap size) in
+    let ls = map float lines in
+    let only : (inner : Float) (s₁ o₁ : List Float) → Aligned (container gap size) (Spread Stretch) ls s o inner s₁ o₁ → s₁ ≡ onto sizes s = λ inner s₁ o₁ p. stretches lines gap size sizes (t .0) (t .1) s o s₁ o₁ inner p in
+    let inner = cleaned (containerSize c (Spread Stretch) ls) in
+    let s₁ = overwritten (length ls) (grownOf lines gap size) s in
+    let o₁ = overwritten (length ls) (axis.offsets (freeCross c (Spread Stretch) ls) (length ls) (c .gap) (Spread Stretch) (isReversed (c .wrap))) o in
+    ((inner, o₁, record { inner-is = refl; sizes-are = sym (only inner s₁ o₁ (record { inner-is = refl; sizes-are = refl; offsets-are = refl })); offsets-are = refl }), only)
 
 abbrev All : List Row → Type 0
 All [] = Unit {0}

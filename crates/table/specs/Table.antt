@@ -110,11 +110,13 @@ Holds (flexed inner items sizes rounds) =
 -- the main axis of every such line, and there is one
 Holds (spaced n free gap keyword offsets) =
     ((inner : Float) × (l : Line) × Plain inner l n free gap)
-    × ((inner : Float) (l : Line) → Plain inner l n free gap
-    → (o s e o₁ s₁ e₁ : List Float) → Spaced inner (float gap) (Spread keyword) false l o s e o₁ s₁ e₁ → o₁ ≡ onto offsets o)
+    × ((inner : Float) (l : Line) → Plain inner l n free gap → (o s e : List Float)
+    → ((s₁ : List Float) × (e₁ : List Float) × Spaced inner (float gap) (Spread keyword) false l o s e (onto offsets o) s₁ e₁)
+    × ((o₁ s₁ e₁ : List Float) → Spaced inner (float gap) (Spread keyword) false l o s e o₁ s₁ e₁ → o₁ ≡ onto offsets o))
 -- the cross axis under stretch
 Holds (stretched lines gap size sizes) =
-    (s o s₁ o₁ : List Float) (inner : Float) → Aligned (container gap size) (Spread Stretch) (map float lines) s o inner s₁ o₁ → s₁ ≡ onto sizes s
+    (s o : List Float) → ((inner : Float) × (o₁ : List Float) × Aligned (container gap size) (Spread Stretch) (map float lines) s o inner (onto sizes s) o₁)
+    × ((inner : Float) (s₁ o₁ : List Float) → Aligned (container gap size) (Spread Stretch) (map float lines) s o inner s₁ o₁ → s₁ ≡ onto sizes s)
 
 -- THE STATEMENT: every row of the table holds
 abbrev pub Every : List Row → Type 0
