@@ -1,4 +1,5 @@
 // The whole pass on plain lists: breaking, flexing, the main axis and the cross axis of one container.
+mod stages;
 
 // What the pass answers: the lines, the sum of their rounds, and the container's inner cross size.
 pub enum PassAnswer {
