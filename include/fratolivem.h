@@ -330,8 +330,8 @@ fratolivem_sized fratolivem_line_size(fratolivem_cross container, const float *m
 fratolivem_sized fratolivem_place_lines(fratolivem_cross container, uint32_t align_content, const float *lines, size_t lines_len, float *sizes,
                                         size_t sizes_len, float *offsets, size_t offsets_len);
 
-/* Places one line's items across it. `line` is its cross size, as the call above leaves it, and `reversed` 1 under WRAP_REVERSE and
- * BALANCE_REVERSE, else 0. The items are the nine lists of fratolivem_line_size, and two more:
+/* Places one line's items across it. `line` is its cross size, as the call above leaves it and within the same bounds; `reversed` is 1 under
+ * WRAP_REVERSE and BALANCE_REVERSE, else 0. The items are the nine lists of fratolivem_line_size, and two more:
  *   align_self    a keyword above, of START to STRETCH
  *   auto_size     1 where the cross size is auto, so that STRETCH fills the line, else 0
  * Room: n cells each of sizes, used_start, used_end and offsets. On acceptance they hold the items' cross sizes, their margins, of which auto

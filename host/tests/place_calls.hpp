@@ -62,8 +62,9 @@ inline std::string shown(const model::CrossLists &l) {
            listed("align", l.align_self) + listed("auto_size", l.auto_size);
 }
 inline std::string shown(const MainCall &c) {
-    return words("inner %a gap %a justify %u reversed %u;", double(c.inner), double(c.gap), c.justify, c.reversed) + listed("targets", c.items.targets) +
-           listed("start", c.items.start) + listed("end", c.items.end) + listed("auto", c.items.auto_start) + listed("auto", c.items.auto_end);
+    return words("inner %a gap %a justify %u reversed %u;", double(c.inner), double(c.gap), c.justify, c.reversed) +
+           listed("targets", c.items.targets) + listed("start", c.items.start) + listed("end", c.items.end) +
+           listed("auto", c.items.auto_start) + listed("auto", c.items.auto_end);
 }
 inline std::string shown(const SizeCall &c) { return shown(c.container) + shown(c.items); }
 inline std::string shown(const LinesCall &c) { return shown(c.container) + words(" align %u", c.align_content) + listed("lines", c.lines); }
@@ -78,8 +79,10 @@ void expect(bool ok, const char *what, const Call &c) {
 // ---- lists
 
 constexpr std::size_t most = 1100;
-inline std::array<Lent<float>, 6> floats{Lent<float>(most), Lent<float>(most), Lent<float>(most), Lent<float>(most), Lent<float>(most), Lent<float>(most)};
-inline std::array<Lent<uint32_t>, 5> codes{Lent<uint32_t>(most), Lent<uint32_t>(most), Lent<uint32_t>(most), Lent<uint32_t>(most), Lent<uint32_t>(most)};
+inline std::array<Lent<float>, 6> floats{Lent<float>(most), Lent<float>(most), Lent<float>(most),
+                                         Lent<float>(most), Lent<float>(most), Lent<float>(most)};
+inline std::array<Lent<uint32_t>, 5> codes{Lent<uint32_t>(most), Lent<uint32_t>(most), Lent<uint32_t>(most), Lent<uint32_t>(most),
+                                           Lent<uint32_t>(most)};
 inline std::array<Lent<float>, 4> answers{Lent<float>(most), Lent<float>(most), Lent<float>(most), Lent<float>(most)};
 
 template <class List>
@@ -184,7 +187,8 @@ inline void try_lines(const LinesCall &c, const Extra &x = {}) {
 inline void try_across(const AcrossCall &c, const Extra &x = {}) {
     lend(c.items);
     const bool room = lend_answers(4, c.items.n(), x);
-    const auto a = fratolivem_place_across(c.line, c.reversed, ELEVEN_LISTS, CELLS(answers[0]), CELLS(answers[1]), CELLS(answers[2]), CELLS(answers[3]));
+    const auto a = fratolivem_place_across(c.line, c.reversed, ELEVEN_LISTS, CELLS(answers[0]), CELLS(answers[1]), CELLS(answers[2]),
+                                           CELLS(answers[3]));
     const auto e = model::check_across(c.line, c.reversed, 1, c.items, room);
     compare(a, e, c);
     expect(a.lines == 0 && a.rounds == 0, "place_across: lines or rounds", c);

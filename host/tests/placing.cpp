@@ -231,7 +231,8 @@ void lengths() {
         const model::MainLists along = main_call(0, 0, 0, Floats(n, 1.5f)).items;
         const model::CrossLists items = across(std::vector<CrossItem>(n, five_across().at(2)));
         for (uint32_t keyword : {0u, 4u, 11u, 12u, 13u, 14u})
-            for (const Extra &x : {Extra{}, {-1, 0, 0, 0}, {0, -1, 0, 0}, {0, 0, -1, 0}, {0, 0, 0, -1}, {3, 5, 7, 9}, {-1, -1, -1, -1}, {2, 2, -1, 2}}) {
+            for (const Extra &x : {Extra{}, {-1, 0, 0, 0}, {0, -1, 0, 0}, {0, 0, -1, 0}, {0, 0, 0, -1}, {3, 5, 7, 9}, {-1, -1, -1, -1},
+                                   {2, 2, -1, 2}}) {
                 try_main({2000, 0.5f, keyword, keyword & 1, along}, x);
                 try_lines({container(keyword % 5, 3000, 0.25f), keyword, Floats(n, 0.7f)}, x);
                 try_across({30, keyword & 1, items}, x);
@@ -360,7 +361,8 @@ void random_lists(uint64_t seed, long lists) {
             l.lines[i] = r.or_any(r.below(2) ? r.length(most) : r.worked(most));
             a.items.add(r.item(most));
             lines += double(l.lines[i]);
-            along += double(m.items.targets[i]) + (m.items.auto_start[i] ? 0 : double(m.items.start[i])) + (m.items.auto_end[i] ? 0 : double(m.items.end[i]));
+            along += double(m.items.targets[i]);
+            along += (m.items.auto_start[i] ? 0 : double(m.items.start[i])) + (m.items.auto_end[i] ? 0 : double(m.items.end[i]));
         }
         m.inner = r.near(along, m.inner), l.container.inner = r.near(lines, l.container.inner);
         try_main(m, x), try_lines(l, x), try_across(a, x), try_size({r.cross(most), a.items});
