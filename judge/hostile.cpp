@@ -517,7 +517,6 @@ void try_across(Draw &draw) {
 
 // ---- the whole pass
 
-#ifdef JUDGE_HAS_PASS
 // Records as their cells, so that the last one can end where a page does.
 Lent<uint32_t> in_items(22 * most);
 
@@ -606,7 +605,6 @@ void every_cell_of_a_pass() {
             }
         }
 }
-#endif
 
 } // namespace
 
@@ -627,14 +625,10 @@ int main(int argc, char **argv) {
         try_line_size,
         try_lines,
         try_across,
-#ifdef JUDGE_HAS_PASS
         try_pass,
         try_pass,
-#endif
     };
-#ifdef JUDGE_HAS_PASS
     every_cell_of_a_pass();
-#endif
     while (calls < wanted) tries[below(sizeof tries / sizeof *tries)](draw);
     // Without this line the reader at the other end of the pipe fails.
     if (!bad) std::puts("end");

@@ -1,4 +1,4 @@
-// Our answer to a case: the library's where the call is exported, else the model's. A refusal is told apart.
+// Our answer to a case, by the exported calls. A refusal is told apart.
 #ifndef OURS_HPP
 #define OURS_HPP
 
@@ -97,7 +97,6 @@ inline Told placed_across(const Case &c) {
     return t;
 }
 
-#ifdef JUDGE_HAS_PASS
 // The library's pass, in the model's terms.
 inline model::Passed pass_of(const Case &c) {
     static std::vector<uint32_t> work;
@@ -118,9 +117,6 @@ inline model::Passed pass_of(const Case &c) {
     p.lines_made = a.lines, p.rounds_made = a.rounds, p.inner_cross = a.inner_cross;
     return p;
 }
-#else
-inline model::Passed pass_of(const Case &c) { return model::pass(c.container, c.items, model::PassRoom::named(c.items.size())); }
-#endif
 
 // The numbers of the pass in the judge's order: inner cross size, line sizes and offsets, then the eight lists by item.
 inline Told passed(const Case &c) {
