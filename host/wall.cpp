@@ -61,11 +61,13 @@ float on_grid(float px) { return std::round(px * 64.0f) / 64.0f; }
 // The host's measuring. A bar is as long as its value, so what is wrong with the value is wrong with the width: nothing here looks.
 fratolivem::item measure(const gauge &g, float value) {
     if (g.kind == "dial") return {104, 104};
-    if (g.kind == "lamp") return {on_grid(24 + 7.25f * float(g.label.size())), 40};
-    fratolivem::item it{on_grid(g.kind == "bar" ? 96 + 64 * value : 32 + 7.25f * float(g.label.size() + number_text(value).size())), 40};
+    const bool is_bar = g.kind == "bar", is_lamp = g.kind == "lamp";
+    const float characters = float(g.label.size() + (is_lamp ? 0 : number_text(value).size()));
+    fratolivem::item it{on_grid(is_bar ? 96 + 64 * value : 24 + 7.25f * characters), 40};
+    it.align_self = FRATOLIVEM_CENTER;
+    if (is_lamp) return it;
     it.grow = 1;
-    it.maximum(320);
-    return it;
+    return it.maximum(320);
 }
 
 // A panel is 960 px wide, its lines balanced and 8 px apart, and as high as they make it.
@@ -100,8 +102,8 @@ void print(const wall_panel &p) {
     for (const auto &line : f.lines) {
         std::printf("   ");
         for (std::uint32_t k = 0; k < line.count; k++, i++)
-            std::printf(" %s %g", p.gauges[i].label.c_str(), double(f.items[i].main_size));
-        std::printf("  (%g px free, %u round%s)\n", line.free / 64.0, line.rounds, line.rounds == 1 ? "" : "s");
+            std::printf(" %s %.1f", p.gauges[i].label.c_str(), double(f.items[i].main_size));
+        std::printf("  (%.1f px free, %u round%s)\n", line.free / 64.0, line.rounds, line.rounds == 1 ? "" : "s");
     }
 }
 
