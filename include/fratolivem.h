@@ -227,7 +227,7 @@ enum { FRATOLIVEM_LINE_SIZE = 0, FRATOLIVEM_LINE_OFFSET = 1, FRATOLIVEM_LINE_LIS
 /* Breaks, flexes and places n items. Room: 8n cells of placed and 2n of lines; n counts, rounds and free, by line: item counts, rounds of
  * flexing, and free space before flexing in whole sixty-fourths, negative where the line is overfull. Cells by line are 0 past the last line.
  * BALANCE and BALANCE_REVERSE also ask for n*n + 3n cells of work and 3n of sums (fratolivem_work_cells, fratolivem_sum_cells), which are 0
- * after acceptance; else these two may be NULL and are not touched. All other cells are unchanged. It takes some 200 KB of stack. */
+ * after acceptance; else these two may be NULL and are not touched. All other cells are unchanged. It takes some 160 KB of stack. */
 fratolivem_passed fratolivem_pass(fratolivem_container container, const fratolivem_item *items, size_t n, float *placed,
                                   size_t placed_len, float *lines, size_t lines_len, uint32_t *counts, size_t counts_len,
                                   uint32_t *rounds, size_t rounds_len, int32_t *free, size_t free_len, uint32_t *work,
