@@ -1,47 +1,164 @@
-// A small wall: one list of gauges, broken greedily and balanced, and the same list with a NaN in it.
+// The wall: a truck panel and a road panel of gauges, laid out driving and then parked. Parked, the truck's slip is 0 divided by 0, and a
+// careless measure makes a NaN width of it. That panel is refused and keeps its last good frame; the road panel is laid out as ever.
+// wall GAUGES FOLDER: reads the gauges, prints both frames, and draws each into FOLDER as wall-driving.svg and wall-parked.svg.
 #include <cmath>
 #include <cstdio>
+#include <fstream>
+#include <sstream>
 
 #include "fratolivem.hpp"
 
 namespace {
 
-// A line for each line of gauges, drawn to scale.
-void show(const char *how, const fratolivem::answer &answer, const std::vector<float> &sizes, const std::vector<std::uint32_t> &counts) {
-    std::printf("%s: ", how);
-    if (!answer) {
-        std::printf("refused (%u): %s\n", answer.number, answer.text().c_str());
+enum frame_no { driving, parked, frames };
+const char *const frame_name[frames] = {"driving", "parked"};
+
+struct gauge {
+    std::string label, kind;
+    float value[frames];
+};
+
+// What a panel shows, and where. Its frame may be older than its gauges' values: then `note` says why.
+struct wall_panel {
+    std::string name;
+    std::vector<gauge> gauges;
+    fratolivem::panel panel;
+    std::vector<float> shown;
+    std::string note;
+};
+
+// A sensor's number, or the quotient of two.
+float sensor(const std::string &text) {
+    const auto slash = text.find('/');
+    const float x = std::stof(text);
+    return slash == std::string::npos ? x : x / std::stof(text.substr(slash + 1));
+}
+
+bool read_gauges(const char *path, std::vector<wall_panel> &wall) {
+    std::ifstream file(path);
+    std::string line;
+    while (std::getline(file, line)) {
+        if (line.empty() || line[0] == '#') continue;
+        std::istringstream words(line);
+        std::string panel, values[frames];
+        gauge g;
+        if (!(words >> panel >> g.label >> g.kind >> values[driving] >> values[parked])) return false;
+        for (int f = 0; f < frames; f++) g.value[f] = sensor(values[f]);
+        if (wall.empty() || wall.back().name != panel) wall.push_back({panel, {}, {}, {}, {}});
+        wall.back().gauges.push_back(g);
+    }
+    return !wall.empty();
+}
+
+std::string number_text(float x) {
+    char text[32];
+    std::snprintf(text, sizeof text, "%g", double(x));
+    return text;
+}
+
+float on_grid(float px) { return std::round(px * 64.0f) / 64.0f; }
+
+// The host's measuring. A bar is as long as its value, so what is wrong with the value is wrong with the width: nothing here looks.
+fratolivem::item measure(const gauge &g, float value) {
+    if (g.kind == "dial") return {104, 104};
+    const bool is_bar = g.kind == "bar", is_lamp = g.kind == "lamp";
+    const float characters = float(g.label.size() + (is_lamp ? 0 : number_text(value).size()));
+    fratolivem::item it{on_grid(is_bar ? 96 + 64 * value : 24 + 7.25f * characters), 40};
+    it.align_self = FRATOLIVEM_CENTER;
+    if (is_lamp) return it;
+    it.grow = 1;
+    return it.maximum(320);
+}
+
+// A panel is 960 px wide, its lines balanced and 8 px apart, and as high as they make it.
+fratolivem::container panel_container() {
+    const auto limit = fratolivem::break_limit(true, true, true, fratolivem::space::definite(960));
+    fratolivem::container c{960, 8, limit.value()};
+    c.wrap = FRATOLIVEM_BALANCE;
+    c.justify_content = FRATOLIVEM_SPACE_BETWEEN;
+    return c.across({}, 8, 120);
+}
+
+void lay(wall_panel &p, int f) {
+    std::vector<fratolivem::item> items;
+    for (const gauge &g : p.gauges) items.push_back(measure(g, g.value[f]));
+    const auto answer = p.panel.lay(panel_container(), items);
+    p.note.clear();
+    if (answer) {
+        p.shown.clear();
+        for (const gauge &g : p.gauges) p.shown.push_back(g.value[f]);
         return;
     }
-    std::printf("%u lines\n", answer.lines);
-    std::size_t item = 0;
-    for (std::uint32_t line = 0; line < answer.lines; line++) {
+    p.note = "refused " + std::to_string(answer.number) + ": " + answer.text();
+    if (answer.where == FRATOLIVEM_AT) p.note += " (" + p.gauges[answer.place].label + ")";
+    p.note += "; its last good frame stays";
+}
+
+void print(const wall_panel &p) {
+    const fratolivem::frame &f = p.panel.last();
+    std::printf("  %s: %zu gauges in %zu lines, %g px high%s%s\n", p.name.c_str(), f.items.size(), f.lines.size(), double(f.inner_cross),
+                p.note.empty() ? "" : "\n    ", p.note.c_str());
+    std::size_t i = 0;
+    for (const auto &line : f.lines) {
         std::printf("   ");
-        for (std::uint32_t i = 0; i < counts[line]; i++, item++) {
-            std::printf(" [");
-            for (int cells = 0; cells < int(sizes[item] / 10.0f) - 2; cells++) std::printf("-");
-            std::printf("]");
-        }
-        std::printf("\n");
+        for (std::uint32_t k = 0; k < line.count; k++, i++)
+            std::printf(" %s %.1f", p.gauges[i].label.c_str(), double(f.items[i].main_size));
+        std::printf("  (%.1f px free, %u round%s)\n", line.free / 64.0, line.rounds, line.rounds == 1 ? "" : "s");
     }
+}
+
+void draw_gauge(std::ofstream &svg, const gauge &g, float value, const fratolivem::box &b, float x, float y) {
+    const float left = x + b.main, top = y + b.cross, middle = left + b.main_size / 2;
+    svg << "<rect x='" << left << "' y='" << top << "' width='" << b.main_size << "' height='" << b.cross_size
+        << "' rx='6' fill='#1d2733' stroke='#3c5066'/>\n";
+    if (g.kind == "bar")
+        svg << "<rect x='" << left + 8 << "' y='" << top + b.cross_size - 12 << "' width='" << (b.main_size - 16) * value
+            << "' height='6' rx='3' fill='#4fb3ff'/>\n";
+    if (g.kind == "dial")
+        svg << "<circle cx='" << middle << "' cy='" << top + 60 << "' r='32' fill='none' stroke='#4fb3ff' stroke-width='4'/>\n";
+    if (g.kind == "lamp")
+        svg << "<circle cx='" << middle << "' cy='" << top + 30 << "' r='5' fill='" << (value > 0 ? "#ffb347" : "#3c5066") << "'/>\n";
+    svg << "<text x='" << middle << "' y='" << top + 17 << "'>" << g.label << "</text>\n";
+    if (g.kind == "dial") svg << "<text x='" << middle << "' y='" << top + 65 << "'>" << number_text(value) << "</text>\n";
+    if (g.kind == "text") svg << "<text x='" << middle << "' y='" << top + 33 << "' fill='#4fb3ff'>" << number_text(value) << "</text>\n";
+}
+
+bool draw(const std::vector<wall_panel> &wall, const std::string &path) {
+    const float width = 1008, head = 36, pad = 24;
+    float height = pad;
+    for (const auto &p : wall) height += head + p.panel.last().inner_cross + pad;
+    std::ofstream svg(path);
+    svg << "<svg xmlns='http://www.w3.org/2000/svg' viewBox='0 0 " << width << ' ' << height
+        << "' font-family='sans-serif' font-size='12' text-anchor='middle' fill='#d8e2ec'>\n<rect width='100%' height='100%' fill='#0f151c'/>\n";
+    float y = pad;
+    for (const auto &p : wall) {
+        svg << "<text x='" << pad << "' y='" << y + 18 << "' font-size='16' text-anchor='start'>" << p.name << "</text>\n<text x='" << width - pad
+            << "' y='" << y + 18 << "' text-anchor='end' fill='#ff6b6b'>" << p.note << "</text>\n";
+        y += head;
+        const auto boxes = fratolivem::boxes(panel_container(), p.panel.last());
+        for (std::size_t i = 0; i < boxes.size(); i++) draw_gauge(svg, p.gauges[i], p.shown[i], boxes[i], pad, y);
+        y += p.panel.last().inner_cross + pad;
+    }
+    svg << "</svg>\n";
+    return bool(svg);
 }
 
 } // namespace
 
-int main() {
-    std::vector<float> gauges{120, 80, 80, 200, 60, 60, 140, 90, 90, 70, 50, 160, 30};
-    std::vector<std::uint32_t> counts(gauges.size());
-    const auto found = fratolivem::break_limit(true, true, true, fratolivem::space::definite(480));
-    if (!found) {
-        std::printf("no limit: %s\n", found.text().c_str());
+int main(int argc, char **argv) {
+    std::vector<wall_panel> wall;
+    if (argc != 3 || !read_gauges(argv[1], wall)) {
+        std::fprintf(stderr, "usage: wall GAUGES FOLDER\n");
         return 1;
     }
-    const auto limit = found.value();
-    fratolivem::balancer balance;
-    std::printf("%zu gauges, %g px wide, gap 10 px\n\n", gauges.size(), double(limit.pixels));
-    show("greedy", fratolivem::greedy(limit, 10, gauges, counts), gauges, counts);
-    show("balanced", balance(limit, 10, 1, gauges, counts), gauges, counts);
-    show("balanced, at least 5 lines", balance(limit, 10, 5, gauges, counts), gauges, counts);
-    gauges[6] = NAN;
-    show("balanced, gauge 6 measured as NaN", balance(limit, 10, 1, gauges, counts), gauges, counts);
+    for (int f = 0; f < frames; f++) {
+        std::printf("%s\n", frame_name[f]);
+        for (auto &p : wall) lay(p, f), print(p);
+        const std::string path = std::string(argv[2]) + "/wall-" + frame_name[f] + ".svg";
+        if (!draw(wall, path)) {
+            std::fprintf(stderr, "cannot write %s\n", path.c_str());
+            return 1;
+        }
+        std::printf("  drawn: %s\n\n", path.c_str());
+    }
 }

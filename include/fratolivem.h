@@ -1,4 +1,4 @@
-/* Fratolivem: breaking items into lines and flexing them, for C99 and C++17. C++ hosts may take fratolivem.hpp, which stands over this file.
+/* Fratolivem: breaking items into lines, flexing and placing them, for C99 and C++17. C++ hosts may take fratolivem.hpp, which stands over this file.
  *
  * Any bits may be handed in: a call answers or refuses, and never goes wrong over a number. What a host must see to:
  *  - a list is a pointer and a number of cells; a list of 0 cells may be NULL;
@@ -227,7 +227,7 @@ enum { FRATOLIVEM_LINE_SIZE = 0, FRATOLIVEM_LINE_OFFSET = 1, FRATOLIVEM_LINE_LIS
 /* Breaks, flexes and places n items. Room: 8n cells of placed and 2n of lines; n counts, rounds and free, by line: item counts, rounds of
  * flexing, and free space before flexing in whole sixty-fourths, negative where the line is overfull. Cells by line are 0 past the last line.
  * BALANCE and BALANCE_REVERSE also ask for n*n + 3n cells of work and 3n of sums (fratolivem_work_cells, fratolivem_sum_cells), which are 0
- * after acceptance; else these two may be NULL and are not touched. All other cells are unchanged. It takes some 200 KB of stack. */
+ * after acceptance; else these two may be NULL and are not touched. All other cells are unchanged. It takes some 160 KB of stack. */
 fratolivem_passed fratolivem_pass(fratolivem_container container, const fratolivem_item *items, size_t n, float *placed,
                                   size_t placed_len, float *lines, size_t lines_len, uint32_t *counts, size_t counts_len,
                                   uint32_t *rounds, size_t rounds_len, int32_t *free, size_t free_len, uint32_t *work,
@@ -275,6 +275,76 @@ fratolivem_answer fratolivem_flex_lines(float inner, float gap, const uint32_t *
                                         size_t start_len, const float *end, size_t end_len, const uint32_t *auto_start,
                                         size_t auto_start_len, const uint32_t *auto_end, size_t auto_end_len, float *targets,
                                         size_t targets_len, int32_t *free, size_t free_len, uint32_t *rounds, size_t rounds_len);
+
+/* ---- placing: the main axis of one line, and the cross axis of a container and of one line */
+
+/* Places one line's items along it. `inner` is the container's inner main size and `gap` that between two items; `justify_content` is a keyword
+ * above, and `reversed` 1 where the direction is (ROW_REVERSE, COLUMN_REVERSE), else 0. The items are five lists of n cells each:
+ *   targets       their main sizes, as flexing leaves them: any finite number of at most 16,777,216 px either way, on the grid or off it
+ *   start, end, auto_start, auto_end   their margins, as in flexing
+ * Room: n cells each of offsets, used_start and used_end. On acceptance the used margins are the items' own, auto ones with their equal part of
+ * the free space, or 0 where none is free; an offset is the step before an item and its margins, walking the line from the physical start, from
+ * the last item where reversed: the gap, and what `justify_content` adds. The answer has no lines and no rounds; it is never refusal 6. */
+fratolivem_answer fratolivem_place_main(float inner, float gap, uint32_t justify_content, uint32_t reversed, const float *targets,
+                                        size_t targets_len, const float *start, size_t start_len, const float *end, size_t end_len,
+                                        const uint32_t *auto_start, size_t auto_start_len, const uint32_t *auto_end, size_t auto_end_len,
+                                        float *offsets, size_t offsets_len, float *used_start, size_t used_start_len, float *used_end,
+                                        size_t used_end_len);
+
+/* A container's cross axis by value. A number beside a flag `has_..` of 0 is absent and not read. */
+typedef struct {
+    float inner; /* the inner cross size; it is held to the bounds */
+    uint32_t has_inner;
+    float minimum; /* bounds on the inner cross size: the minimum wins */
+    uint32_t has_minimum;
+    float maximum;
+    uint32_t has_maximum;
+    float gap; /* between two lines */
+    uint32_t wrap;
+} fratolivem_cross;
+
+typedef struct {
+    uint32_t number;
+    uint32_t where;
+    uint32_t place;
+    float size; /* 0.0 on refusal */
+} fratolivem_sized;
+
+/* The cross size of one line: the inner size of a NOWRAP container that has one, else the largest of its items' outer cross sizes and 0, held to
+ * the container's bounds under NOWRAP. The container's gap is not read. The items are nine lists of n cells each:
+ *   measured      its cross size as the host measured it, at least 0, padding and border counted in
+ *   minimum, maximum, has_maximum, edges   what bounds it, as in flexing, here along the cross axis
+ *   start, end, auto_start, auto_end       its cross margins, alike; auto ones count as 0
+ * Nothing is lent. It is never refusal 6. */
+fratolivem_sized fratolivem_line_size(fratolivem_cross container, const float *measured, size_t measured_len, const float *minimum,
+                                      size_t minimum_len, const float *maximum, size_t maximum_len, const uint32_t *has_maximum,
+                                      size_t has_maximum_len, const float *edges, size_t edges_len, const float *start, size_t start_len,
+                                      const float *end, size_t end_len, const uint32_t *auto_start, size_t auto_start_len,
+                                      const uint32_t *auto_end, size_t auto_end_len);
+
+/* Places a container's n lines along the cross axis and answers its inner cross size: the given one, else lines plus gaps, held to the bounds.
+ * `lines` are cross sizes as the call above answers them: any finite number of at most 16,777,216 px either way. Under STRETCH, lines that
+ * with their gaps fall short of the inner size, or of the minimum where there is none, share the rest equally.
+ * Room: n cells each of sizes and offsets. On acceptance they hold the lines' sizes after that, and the step before each line, walking from the
+ * last line under WRAP_REVERSE and BALANCE_REVERSE. The place of a refusal is a line. It is never refusal 6. */
+fratolivem_sized fratolivem_place_lines(fratolivem_cross container, uint32_t align_content, const float *lines, size_t lines_len, float *sizes,
+                                        size_t sizes_len, float *offsets, size_t offsets_len);
+
+/* Places one line's items across it. `line` is its cross size, as the call above leaves it and within the same bounds; `reversed` is 1 under
+ * WRAP_REVERSE and BALANCE_REVERSE, else 0. The items are the nine lists of fratolivem_line_size, and two more:
+ *   align_self    a keyword above, of START to STRETCH
+ *   auto_size     1 where the cross size is auto, so that STRETCH fills the line, else 0
+ * Room: n cells each of sizes, used_start, used_end and offsets. On acceptance they hold the items' cross sizes, their margins, of which auto
+ * ones take all the free space, negative too, and their offsets, each from the line's start to the item's start margin. The answer has no lines
+ * and no rounds; it is never refusal 6. */
+fratolivem_answer fratolivem_place_across(float line, uint32_t reversed, const float *measured, size_t measured_len, const float *minimum,
+                                          size_t minimum_len, const float *maximum, size_t maximum_len, const uint32_t *has_maximum,
+                                          size_t has_maximum_len, const float *edges, size_t edges_len, const float *start,
+                                          size_t start_len, const float *end, size_t end_len, const uint32_t *auto_start,
+                                          size_t auto_start_len, const uint32_t *auto_end, size_t auto_end_len,
+                                          const uint32_t *align_self, size_t align_self_len, const uint32_t *auto_size,
+                                          size_t auto_size_len, float *sizes, size_t sizes_len, float *used_start, size_t used_start_len,
+                                          float *used_end, size_t used_end_len, float *offsets, size_t offsets_len);
 
 #ifdef __cplusplus
 }

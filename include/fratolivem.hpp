@@ -52,15 +52,15 @@ inline const char *words(refusal r) {
     return "no refusal of this library";
 }
 
-// What a refusal is about, in words: "the container" or "item 3".
-inline std::string place_words(std::uint32_t where, std::uint32_t place) {
+// What a refusal is about, in words: "the container" or "item 3"; of what is counted, where these are no items.
+inline std::string place_words(std::uint32_t where, std::uint32_t place, const char *counted = "item") {
     if (where == FRATOLIVEM_CONTAINER) return "the container";
-    return where == FRATOLIVEM_AT ? "item " + std::to_string(place) : "nowhere";
+    return where == FRATOLIVEM_AT ? std::string(counted) + " " + std::to_string(place) : "nowhere";
 }
 
 // A refusal and its place in words; "accepted" where there is none.
-inline std::string refusal_text(refusal why, std::uint32_t where, std::uint32_t place) {
-    return why == refusal::none ? std::string(words(why)) : std::string(words(why)) + ", at " + place_words(where, place);
+inline std::string refusal_text(refusal why, std::uint32_t where, std::uint32_t place, const char *counted = "item") {
+    return why == refusal::none ? std::string(words(why)) : std::string(words(why)) + ", at " + place_words(where, place, counted);
 }
 
 // The answer of a call over lines. It is true where the input was accepted; else no lent cell was changed.
@@ -294,6 +294,81 @@ inline answer flex_lines(float inner, float gap, span<const std::uint32_t> count
                                   items.end.size(), items.auto_start.data(), items.auto_start.size(), items.auto_end.data(),
                                   items.auto_end.size(), targets.data(), targets.size(), free.data(), free.size(), rounds.data(),
                                   rounds.size())};
+}
+
+// ---- placing
+
+// The items that placing along a line takes, a column for each number: all of one length. fratolivem_place_main says what each of them is.
+struct main_columns {
+    span<const float> targets, start, end;
+    span<const std::uint32_t> auto_start, auto_end;
+};
+
+// Those that a line's cross size takes, and with two more those of placing across a line.
+struct cross_columns {
+    span<const float> measured, minimum, maximum;
+    span<const std::uint32_t> has_maximum;
+    span<const float> edges, start, end;
+    span<const std::uint32_t> auto_start, auto_end;
+};
+
+struct across_columns : cross_columns {
+    span<const std::uint32_t> align_self, auto_size;
+};
+
+// A container's cross axis, absent numbers as none.
+struct cross : fratolivem_cross {
+    cross(std::uint32_t wrap_code, bound inner_px, float gap_px, bound minimum_px = {}, bound maximum_px = {})
+        : fratolivem_cross{inner_px.pixels,   inner_px.given,   minimum_px.pixels, minimum_px.given,
+                           maximum_px.pixels, maximum_px.given, gap_px,            wrap_code} {}
+};
+
+// The answer of line_size: a line's cross size.
+struct [[nodiscard]] sized : fratolivem_sized {
+    explicit operator bool() const { return number == FRATOLIVEM_ACCEPTED; }
+    refusal why() const { return static_cast<refusal>(number); }
+    std::string text() const { return refusal_text(why(), where, place); }
+};
+
+// The answer of place_lines: the container's inner cross size. A refusal's place is a line.
+struct [[nodiscard]] lines_placed : fratolivem_sized {
+    explicit operator bool() const { return number == FRATOLIVEM_ACCEPTED; }
+    refusal why() const { return static_cast<refusal>(number); }
+    std::string text() const { return refusal_text(why(), where, place, "line"); }
+};
+
+inline answer place_main(float inner, float gap, std::uint32_t justify_content, bool reversed, const main_columns &items, span<float> offsets,
+                         span<float> used_start, span<float> used_end) {
+    return {fratolivem_place_main(inner, gap, justify_content, reversed, items.targets.data(), items.targets.size(), items.start.data(),
+                                  items.start.size(), items.end.data(), items.end.size(), items.auto_start.data(), items.auto_start.size(),
+                                  items.auto_end.data(), items.auto_end.size(), offsets.data(), offsets.size(), used_start.data(),
+                                  used_start.size(), used_end.data(), used_end.size())};
+}
+
+inline sized line_size(const fratolivem_cross &container, const cross_columns &items) {
+    return {fratolivem_line_size(container, items.measured.data(), items.measured.size(), items.minimum.data(), items.minimum.size(),
+                                 items.maximum.data(), items.maximum.size(), items.has_maximum.data(), items.has_maximum.size(),
+                                 items.edges.data(), items.edges.size(), items.start.data(), items.start.size(), items.end.data(),
+                                 items.end.size(), items.auto_start.data(), items.auto_start.size(), items.auto_end.data(),
+                                 items.auto_end.size())};
+}
+
+inline lines_placed place_lines(const fratolivem_cross &container, std::uint32_t align_content, span<const float> lines, span<float> sizes,
+                                span<float> offsets) {
+    return {fratolivem_place_lines(container, align_content, lines.data(), lines.size(), sizes.data(), sizes.size(), offsets.data(),
+                                   offsets.size())};
+}
+
+inline answer place_across(float line, bool reversed, const across_columns &items, span<float> sizes, span<float> used_start,
+                           span<float> used_end, span<float> offsets) {
+    return {fratolivem_place_across(line, reversed, items.measured.data(), items.measured.size(), items.minimum.data(),
+                                    items.minimum.size(), items.maximum.data(), items.maximum.size(), items.has_maximum.data(),
+                                    items.has_maximum.size(), items.edges.data(), items.edges.size(), items.start.data(),
+                                    items.start.size(), items.end.data(), items.end.size(), items.auto_start.data(),
+                                    items.auto_start.size(), items.auto_end.data(), items.auto_end.size(), items.align_self.data(),
+                                    items.align_self.size(), items.auto_size.data(), items.auto_size.size(), sizes.data(), sizes.size(),
+                                    used_start.data(), used_start.size(), used_end.data(), used_end.size(), offsets.data(),
+                                    offsets.size())};
 }
 
 } // namespace fratolivem

@@ -116,7 +116,7 @@ Stand any_stand() { return std::array{Stand::between_canaries, Stand::before_a_p
 constexpr std::size_t most = 1200;
 Lent<float> in_floats[9] = {Lent<float>(most), Lent<float>(most), Lent<float>(most), Lent<float>(most), Lent<float>(most),
                             Lent<float>(most), Lent<float>(most), Lent<float>(most), Lent<float>(most)};
-Lent<uint32_t> in_codes[4] = {Lent<uint32_t>(most), Lent<uint32_t>(most), Lent<uint32_t>(most), Lent<uint32_t>(most)};
+Lent<uint32_t> in_codes[5] = {Lent<uint32_t>(most), Lent<uint32_t>(most), Lent<uint32_t>(most), Lent<uint32_t>(most), Lent<uint32_t>(most)};
 Lent<float> out_floats[3] = {Lent<float>(9 * most), Lent<float>(3 * most), Lent<float>(most)};
 Lent<uint32_t> out_codes[5] = {Lent<uint32_t>(1024 * 1024 + 5 * most), Lent<uint32_t>(most), Lent<uint32_t>(most), Lent<uint32_t>(most), Lent<uint32_t>(most)};
 Lent<int32_t> out_ints(most);
@@ -274,8 +274,8 @@ struct Columns {
     std::size_t n() const { return floats[0].size(); }
 };
 
-// The lists of the flexing calls in their order: which are floats, and which codes.
-constexpr const char *flex_order = "fffcfffffcc", *cross_order = "fffcfffcccc";
+// The lists of the calls in their order: which are floats, and which codes.
+constexpr const char *flex_order = "fffcfffffcc", *main_order = "fffcc", *size_order = "fffcfffcc", *across_order = "fffcfffcccc";
 
 Columns flex_columns(Draw &draw) {
     room_odds = 40, draw.most_items = 5;
@@ -369,9 +369,154 @@ void try_flex_lines(Draw &draw) {
            "the answer is not the model's", line);
 }
 
+// ---- placing
+
+void try_main(Draw &draw) {
+    room_odds = 40, draw.most_items = 5;
+    const Case c = draw.next(Stage::main);
+    Columns l{{c.list, {}, {}}, {{}, {}}};
+    for (const model::Item &it : c.items) {
+        l.floats[1].push_back(it.main_start), l.floats[2].push_back(it.main_end);
+        l.codes[0].push_back(it.auto_main_start), l.codes[1].push_back(it.auto_main_end);
+    }
+    float inner = c.container.inner_main, gap = c.container.gap_main;
+    uint32_t justify = c.container.justify_content, reversed = uint32_t(below(2));
+    l.damage();
+    if (one_in(10)) inner = any_float();
+    if (one_in(10)) gap = any_float();
+    if (one_in(10)) justify = any_code();
+    if (one_in(10)) reversed = any_code();
+    const std::size_t n = l.n();
+    l.lend();
+    for (auto &list : out_floats) list.lend(room(n), any_stand());
+    const auto a = fratolivem_place_main(inner, gap, justify, reversed, LENT(in_floats[0]), LENT(in_floats[1]), LENT(in_floats[2]),
+                                         LENT(in_codes[0]), LENT(in_codes[1]), LENT(out_floats[0]), LENT(out_floats[1]), LENT(out_floats[2]));
+    Text text("place_main");
+    text.f(inner).f(gap).u(justify).u(reversed), add_columns(text, l, main_order);
+    for (auto &list : out_floats) text.u(list.size());
+    const std::string line = text.answered(a.number, a.where, a.place);
+    const bool ok = a.number == 0;
+    bool same = l.kept();
+    for (auto &list : out_floats) same = same && kept(list, ok, n);
+    expect(same, "other cells were changed", line);
+    expect(a.lines == 0 && a.rounds == 0, "lines or rounds", line);
+    if (!ok) return;
+    const auto m = model::place_main(inner, gap, justify, reversed == 1, {l.floats[0], l.floats[1], l.floats[2], l.codes[0], l.codes[1]});
+    expect(holds(out_floats[0], m.offsets) && holds(out_floats[1], m.start) && holds(out_floats[2], m.end), "the answer is not the model's", line);
+}
+
+// A container's cross axis with some damage, its eight numbers as the calls take them.
+model::CrossContainer cross_container(const Case &c) {
+    model::CrossContainer k = c.container.cross();
+    constexpr Cell cells[] = {{"", true}, {"", false}, {"", true}, {"", false}, {"", true}, {"", false}, {"", true}, {"", false}};
+    static_assert(sizeof k == sizeof cells / sizeof(Cell) * 4, "a cell is 4 bytes");
+    for (int i = one_in(2) ? 0 : damages(); i > 0; i--) {
+        const std::size_t at = below(8);
+        damage_cell(&k, at, cells[at]);
+    }
+    return k;
+}
+
+fratolivem_cross to_c(const model::CrossContainer &k) {
+    return {k.inner, k.has_inner, k.minimum, k.has_minimum, k.maximum, k.has_maximum, k.gap, k.wrap};
+}
+
+void add_cross(Text &text, const model::CrossContainer &k) {
+    text.f(k.inner).u(k.has_inner).f(k.minimum).u(k.has_minimum).f(k.maximum).u(k.has_maximum).f(k.gap).u(k.wrap);
+}
+
+Columns cross_columns(const Case &c, bool aligned) {
+    Columns l{std::vector<std::vector<float>>(6), std::vector<std::vector<uint32_t>>(aligned ? 5 : 3)};
+    for (const model::Item &it : c.items) {
+        const float f[] = {it.cross_measured, it.cross_minimum, it.cross_maximum, it.cross_edges, it.cross_start, it.cross_end};
+        const uint32_t u[] = {it.has_cross_maximum, it.auto_cross_start, it.auto_cross_end, it.align_self, it.auto_cross_size};
+        for (std::size_t i = 0; i < 6; i++) l.floats[i].push_back(f[i]);
+        for (std::size_t i = 0; i < l.codes.size(); i++) l.codes[i].push_back(u[i]);
+    }
+    l.damage();
+    return l;
+}
+
+model::CrossLists model_lists(const Columns &l) {
+    const std::vector<uint32_t> none(l.n());
+    return {l.floats[0], l.floats[1], l.floats[2], l.codes[0], l.floats[3], l.floats[4], l.floats[5], l.codes[1], l.codes[2],
+            l.codes.size() > 3 ? l.codes[3] : none, l.codes.size() > 3 ? l.codes[4] : none};
+}
+
+void try_line_size(Draw &draw) {
+    draw.most_items = 5;
+    const Case c = draw.next(Stage::size);
+    const model::CrossContainer k = cross_container(c);
+    Columns l = cross_columns(c, false);
+    l.lend();
+    const auto a = fratolivem_line_size(to_c(k), LENT(in_floats[0]), LENT(in_floats[1]), LENT(in_floats[2]), LENT(in_codes[0]),
+                                        LENT(in_floats[3]), LENT(in_floats[4]), LENT(in_floats[5]), LENT(in_codes[1]), LENT(in_codes[2]));
+    Text text("line_size");
+    add_cross(text, k), add_columns(text, l, size_order);
+    const std::string line = text.answered(a.number, a.where, a.place);
+    expect(l.kept(), "an input was changed", line);
+    expect(model::bits(a.size) == (a.number ? 0 : model::bits(model::cross_size(k, model_lists(l), 0, l.n()))), "the answer is not the model's", line);
+}
+
+void try_lines(Draw &draw) {
+    room_odds = 40, draw.most_items = 5;
+    const Case c = draw.next(Stage::lines);
+    const model::CrossContainer k = cross_container(c);
+    Columns l{{c.list}, {}};
+    uint32_t align = c.container.align_content;
+    if (one_in(10)) align = any_code();
+    l.damage();
+    const std::size_t n = l.n();
+    l.lend(), out_floats[0].lend(room(n), any_stand()), out_floats[1].lend(room(n), any_stand());
+    const auto a = fratolivem_place_lines(to_c(k), align, LENT(in_floats[0]), LENT(out_floats[0]), LENT(out_floats[1]));
+    Text text("place_lines");
+    add_cross(text, k), text.u(align), add_columns(text, l, "f"), text.u(out_floats[0].size()).u(out_floats[1].size());
+    const std::string line = text.answered(a.number, a.where, a.place);
+    const bool ok = a.number == 0;
+    expect(l.kept() && kept(out_floats[0], ok, n) && kept(out_floats[1], ok, n), "other cells were changed", line);
+    expect(ok || model::bits(a.size) == 0, "a refusal has a size", line);
+    if (!ok) return;
+    const auto m = model::place_lines(k, align, l.floats[0]);
+    expect(model::bits(a.size) == model::bits(m.inner) && holds(out_floats[0], m.sizes) && holds(out_floats[1], m.offsets),
+           "the answer is not the model's", line);
+}
+
+void try_across(Draw &draw) {
+    room_odds = 50, draw.most_items = 5;
+    const Case c = draw.next(Stage::across);
+    Columns l = cross_columns(c, true);
+    float height = c.list[0];
+    uint32_t reversed = uint32_t(below(2));
+    if (one_in(10)) height = any_float();
+    if (one_in(10)) reversed = any_code();
+    const std::size_t n = l.n();
+    l.lend();
+    Lent<float> *out[] = {&out_floats[0], &out_floats[1], &out_floats[2], &in_floats[8]};
+    for (Lent<float> *list : out) list->lend(room(n), any_stand());
+    const auto a = fratolivem_place_across(height, reversed, LENT(in_floats[0]), LENT(in_floats[1]), LENT(in_floats[2]), LENT(in_codes[0]),
+                                           LENT(in_floats[3]), LENT(in_floats[4]), LENT(in_floats[5]), LENT(in_codes[1]), LENT(in_codes[2]),
+                                           LENT(in_codes[3]), LENT(in_codes[4]), LENT((*out[0])), LENT((*out[1])), LENT((*out[2])), LENT((*out[3])));
+    Text text("place_across");
+    text.f(height).u(reversed), add_columns(text, l, across_order);
+    for (Lent<float> *list : out) text.u(list->size());
+    const std::string line = text.answered(a.number, a.where, a.place);
+    const bool ok = a.number == 0;
+    bool same = l.kept();
+    for (Lent<float> *list : out) same = same && kept(*list, ok, n);
+    expect(same, "other cells were changed", line);
+    expect(a.lines == 0 && a.rounds == 0, "lines or rounds", line);
+    if (!ok) return;
+    const model::CrossLists m = model_lists(l);
+    std::vector<float> cells[4];
+    for (std::size_t i = 0; i < n; i++) {
+        const auto p = model::place_item(height, reversed == 1, m.at(i));
+        cells[0].push_back(p.size), cells[1].push_back(p.start), cells[2].push_back(p.end), cells[3].push_back(p.offset);
+    }
+    for (int i = 0; i < 4; i++) expect(holds(*out[i], cells[i]), "the answer is not the model's", line);
+}
+
 // ---- the whole pass
 
-#ifdef JUDGE_HAS_PASS
 // Records as their cells, so that the last one can end where a page does.
 Lent<uint32_t> in_items(22 * most);
 
@@ -460,7 +605,6 @@ void every_cell_of_a_pass() {
             }
         }
 }
-#endif
 
 } // namespace
 
@@ -477,14 +621,14 @@ int main(int argc, char **argv) {
         try_parts,
         try_flex_line,
         try_flex_lines,
-#ifdef JUDGE_HAS_PASS
+        try_main,
+        try_line_size,
+        try_lines,
+        try_across,
         try_pass,
         try_pass,
-#endif
     };
-#ifdef JUDGE_HAS_PASS
     every_cell_of_a_pass();
-#endif
     while (calls < wanted) tries[below(sizeof tries / sizeof *tries)](draw);
     // Without this line the reader at the other end of the pipe fails.
     if (!bad) std::puts("end");

@@ -1,4 +1,4 @@
-// Our answer to a case: the library's where the call is exported, else the model's. A refusal is told apart.
+// Our answer to a case, by the exported calls. A refusal is told apart.
 #ifndef OURS_HPP
 #define OURS_HPP
 
@@ -46,12 +46,18 @@ inline Told placed_main(const Case &c) {
         l.auto_start.push_back(it.auto_main_start), l.auto_end.push_back(it.auto_main_end);
     }
     const model::Container &k = c.container;
-    const auto r = model::check_main(k.inner_main, k.gap_main, k.justify_content, k.reversed(), l, true);
-    if (r.number) return {r.number, {}};
-    const auto p = model::place_main(k.inner_main, k.gap_main, k.justify_content, k.reversed(), l);
-    Told t;
-    append(t.answer.numbers, p.offsets), append(t.answer.numbers, p.start), append(t.answer.numbers, p.end);
+    const std::size_t n = l.n();
+    std::vector<float> offsets(n), start(n), end(n);
+    const auto a = fratolivem_place_main(k.inner_main, k.gap_main, k.justify_content, k.reversed(), l.targets.data(), n, l.start.data(), n,
+                                         l.end.data(), n, l.auto_start.data(), n, l.auto_end.data(), n, offsets.data(), n, start.data(), n,
+                                         end.data(), n);
+    Told t{a.number, {}};
+    append(t.answer.numbers, offsets), append(t.answer.numbers, start), append(t.answer.numbers, end);
     return t;
+}
+
+inline fratolivem_cross cross_of(const model::Container &k) {
+    return {k.inner_cross, k.has_inner_cross, k.minimum_cross, k.has_minimum_cross, k.maximum_cross, k.has_maximum_cross, k.gap_cross, k.wrap};
 }
 
 inline model::CrossLists cross_lists(const Case &c) {
@@ -62,35 +68,35 @@ inline model::CrossLists cross_lists(const Case &c) {
 
 inline Told sized(const Case &c) {
     const model::CrossLists l = cross_lists(c);
-    const auto r = model::check_cross_size(c.container.cross(), l);
-    if (r.number) return {r.number, {}};
-    return {0, {{model::cross_size(c.container.cross(), l, 0, l.n())}, {}}};
+    const std::size_t n = l.n();
+    const auto a = fratolivem_line_size(cross_of(c.container), l.measured.data(), n, l.minimum.data(), n, l.maximum.data(), n,
+                                        l.has_maximum.data(), n, l.edges.data(), n, l.start.data(), n, l.end.data(), n, l.auto_start.data(), n,
+                                        l.auto_end.data(), n);
+    return {a.number, {{a.size}, {}}};
 }
 
 inline Told placed_lines(const Case &c) {
-    const auto r = model::check_lines(c.container.cross(), c.container.align_content, c.list, true);
-    if (r.number) return {r.number, {}};
-    const auto p = model::place_lines(c.container.cross(), c.container.align_content, c.list);
-    Told t{0, {{p.inner}, {}}};
-    append(t.answer.numbers, p.sizes), append(t.answer.numbers, p.offsets);
+    const std::size_t n = c.list.size();
+    std::vector<float> sizes(n), offsets(n);
+    const auto a = fratolivem_place_lines(cross_of(c.container), c.container.align_content, c.list.data(), n, sizes.data(), n, offsets.data(), n);
+    Told t{a.number, {{a.size}, {}}};
+    append(t.answer.numbers, sizes), append(t.answer.numbers, offsets);
     return t;
 }
 
 inline Told placed_across(const Case &c) {
     const model::CrossLists l = cross_lists(c);
-    const auto r = model::check_across(c.list[0], c.container.wrap, 4, l, true);
-    if (r.number) return {r.number, {}};
-    std::vector<float> size, start, end, offset;
-    for (std::size_t i = 0; i < l.n(); i++) {
-        const auto p = model::place_item(c.list[0], c.container.cross().reversed(), l.at(i));
-        size.push_back(p.size), start.push_back(p.start), end.push_back(p.end), offset.push_back(p.offset);
-    }
-    Told t;
+    const std::size_t n = l.n();
+    std::vector<float> size(n), start(n), end(n), offset(n);
+    const auto a = fratolivem_place_across(c.list[0], c.container.cross().reversed(), l.measured.data(), n, l.minimum.data(), n,
+                                           l.maximum.data(), n, l.has_maximum.data(), n, l.edges.data(), n, l.start.data(), n, l.end.data(), n,
+                                           l.auto_start.data(), n, l.auto_end.data(), n, l.align_self.data(), n, l.auto_size.data(), n,
+                                           size.data(), n, start.data(), n, end.data(), n, offset.data(), n);
+    Told t{a.number, {}};
     for (const auto *list : {&size, &start, &end, &offset}) append(t.answer.numbers, *list);
     return t;
 }
 
-#ifdef JUDGE_HAS_PASS
 // The library's pass, in the model's terms.
 inline model::Passed pass_of(const Case &c) {
     static std::vector<uint32_t> work;
@@ -111,9 +117,6 @@ inline model::Passed pass_of(const Case &c) {
     p.lines_made = a.lines, p.rounds_made = a.rounds, p.inner_cross = a.inner_cross;
     return p;
 }
-#else
-inline model::Passed pass_of(const Case &c) { return model::pass(c.container, c.items, model::PassRoom::named(c.items.size())); }
-#endif
 
 // The numbers of the pass in the judge's order: inner cross size, line sizes and offsets, then the eight lists by item.
 inline Told passed(const Case &c) {

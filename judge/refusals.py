@@ -202,7 +202,7 @@ def items_across(container, lists, codes, room):
     return numbers(container, items)
 
 
-def size_line(*arguments):
+def line_size(*arguments):
     """The size of one line turns on no gap, which the container's numbers have all the same."""
     taken = [number for i, number in enumerate(arguments[:8]) if i != 6]
     inner, has_inner, minimum, has_minimum, maximum, has_maximum, wrap = taken
@@ -247,7 +247,7 @@ CALLS = {
     "flex_line": flex_line,
     "flex_lines": flex_lines,
     "place_main": place_main,
-    "size_line": size_line,
+    "line_size": line_size,
     "place_lines": place_lines,
     "place_across": place_across,
     "pass": one_pass,

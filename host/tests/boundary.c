@@ -101,6 +101,45 @@ static void flexing(void) {
     expect(rounds[0] == 9 && rounds[1] == 1 && rounds[2] == 1 && rounds[3] == 9, "two lines");
 }
 
+#define CROSS_ITEMS(second_code)                                                                                                          \
+    LIST(20, 30), LIST(0, 0), LIST(NAN, NAN), CODES(0, 0), LIST(4, 0), LIST(1, NAN), LIST(-3, 2), CODES(0, second_code), CODES(0, 0)
+
+/* P14, P15, a line and its items across, and a refusal of each, with a cell more on both sides of each lent list. */
+static void placing(void) {
+    const fratolivem_cross wall = {100, 1, NAN, 0, 90, 1, 10, FRATOLIVEM_WRAP}, p15 = {100, 1, NAN, 0, NAN, 0, 10, FRATOLIVEM_WRAP};
+    float offsets[5] = {9, 9, 9, 9, 9}, start[5] = {9, 9, 9, 9, 9}, end[5] = {9, 9, 9, 9, 9}, sizes[4] = {9, 9, 9, 9};
+    fratolivem_answer a = fratolivem_place_main(100, 5, FRATOLIVEM_SPACE_BETWEEN, 0, LIST(10, 10, 10), LIST(0, 0, 0), LIST(0, 0, 0),
+                                                CODES(0, 0, 0), CODES(0, 0, 0), offsets + 1, 3, start + 1, 3, end + 1, 3);
+    fratolivem_sized s;
+    expect(a.number == 0 && a.where == 0 && a.place == 0 && a.lines == 0 && a.rounds == 0, "P14");
+    expect(offsets[0] == 9 && offsets[1] == 0 && offsets[2] == 35 && offsets[3] == 35 && offsets[4] == 9, "P14");
+    expect(start[0] == 9 && start[1] == 0 && start[3] == 0 && start[4] == 9 && end[0] == 9 && end[2] == 0 && end[4] == 9, "P14");
+    a = fratolivem_place_main(100, 5, 14, 0, LIST(10), LIST(0), LIST(0), CODES(0), CODES(0), offsets + 1, 3, start + 1, 3, end + 1, 3);
+    expect(a.number == 5 && a.where == FRATOLIVEM_CONTAINER && offsets[2] == 35, "a keyword that names nothing");
+
+    s = fratolivem_place_lines(p15, FRATOLIVEM_STRETCH, LIST(20, 30), sizes + 1, 2, offsets + 1, 2);
+    expect(s.number == 0 && s.where == 0 && s.place == 0 && s.size == 100, "P15");
+    expect(sizes[0] == 9 && sizes[1] == 40 && sizes[2] == 50 && sizes[3] == 9, "P15");
+    expect(offsets[0] == 9 && offsets[1] == 0 && offsets[2] == 10 && offsets[3] == 35, "P15");
+    s = fratolivem_place_lines(wall, FRATOLIVEM_END, LIST(20, 30), sizes + 1, 2, offsets + 1, 2);
+    expect(s.number == 0 && s.size == 90 && sizes[1] == 20 && offsets[1] == 30 && offsets[2] == 10, "an inner size held to its maximum");
+    s = fratolivem_place_lines(wall, FRATOLIVEM_END, LIST(20, INFINITY), sizes + 1, 2, offsets + 1, 2);
+    expect(s.number == 3 && s.where == FRATOLIVEM_AT && s.place == 1 && s.size == 0 && sizes[1] == 20, "an infinite line");
+
+    s = fratolivem_line_size(wall, CROSS_ITEMS(1));
+    expect(s.number == 0 && s.where == 0 && s.place == 0 && s.size == 32, "a line's size");
+    s = fratolivem_line_size(wall, CROSS_ITEMS(0));
+    expect(s.number == 3 && s.where == FRATOLIVEM_AT && s.place == 1 && s.size == 0, "a margin that is none");
+
+    a = fratolivem_place_across(40, 0, CROSS_ITEMS(1), CODES(FRATOLIVEM_STRETCH, FRATOLIVEM_END), CODES(1, 0), sizes + 1, 2, start + 1, 2,
+                                end + 1, 2, offsets + 1, 2);
+    expect(a.number == 0 && a.where == 0 && a.place == 0 && a.lines == 0 && a.rounds == 0, "items across");
+    expect(sizes[0] == 9 && sizes[1] == 42 && sizes[2] == 30 && sizes[3] == 9 && offsets[1] == 0 && offsets[2] == 0, "items across");
+    expect(start[0] == 9 && start[1] == 1 && start[2] == 8 && end[0] == 9 && end[1] == -3 && end[2] == 2, "items across");
+    a = fratolivem_place_across(40, 0, CROSS_ITEMS(1), CODES(0, 0), CODES(1, 0), sizes + 1, 2, start + 1, 1, end + 1, 2, offsets + 1, 2);
+    expect(a.number == 2 && a.where == FRATOLIVEM_CONTAINER && sizes[1] == 42, "items across without room");
+}
+
 int main(void) {
     const float holed[] = {5, 6, NAN, 0.01f};
     fratolivem_answer a;
@@ -142,6 +181,7 @@ int main(void) {
     expect(l.number == 0 && l.kind == FRATOLIVEM_MAX_CONTENT && l.limit == 0.0f, "break limit of a column");
 
     flexing();
+    placing();
 
     printf("boundary in C: %d facts compared, %d differences\n", done, bad);
     return bad ? 1 : 0;

@@ -6,8 +6,8 @@
 #include <cstdio>
 #include <string>
 
+#include "cells.hpp"
 #include "fratolivem.h"
-#include "lent.hpp"
 #include "lists.hpp"
 #include "model.hpp"
 
@@ -30,25 +30,15 @@ inline void expect(bool ok, const char *what, const Call &c) {
     if (++bad <= 20) std::printf("DIFFERS: %s; %s\n", what, shown(c).c_str());
 }
 
-inline float of_bits(uint32_t bits) {
-    float x;
-    std::memcpy(&x, &bits, sizeof x);
-    return x;
-}
-
 constexpr std::size_t most = 1100;
 inline Lent<float> sizes(most);
 inline Lent<uint32_t> counts(most), work(1024 * 1024 + 4 * most), fit(most), lines_left(most), reach(most);
 inline Lent<double> sums(4 * most), prev(most), cur(most);
 
-inline Stand any_stand() { return std::array{Stand::between_canaries, Stand::before_a_page, Stand::after_a_page}[dirt() % 3]; }
-
 // Cells lent beyond those that are named; -1 is a list too short by one cell.
 struct Extra {
     int counts = 0, work = 0, sums = 0;
 };
-
-inline std::size_t with(std::size_t cells, int extra) { return extra < 0 && cells == 0 ? 0 : cells + std::size_t(extra); }
 
 struct Expected {
     model::Refusal refusal;

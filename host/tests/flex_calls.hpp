@@ -6,9 +6,9 @@
 #include <cstdio>
 #include <string>
 
+#include "cells.hpp"
 #include "flex_model.hpp"
 #include "fratolivem.h"
-#include "lent.hpp"
 
 inline long calls = 0, bad = 0;
 
@@ -39,14 +39,6 @@ inline void expect(bool ok, const std::string &what, const FlexCall &c) {
     if (++bad <= 20) std::printf("DIFFERS: %s; %s\n", what.c_str(), shown(c).c_str());
 }
 
-inline float of_bits(uint32_t bits) {
-    float x;
-    std::memcpy(&x, &bits, sizeof x);
-    return x;
-}
-
-inline Stand any_stand() { return std::array{Stand::between_canaries, Stand::before_a_page, Stand::after_a_page}[dirt() % 3]; }
-
 constexpr std::size_t most = 1100;
 inline std::array<Lent<float>, 8> floats{Lent<float>(most), Lent<float>(most), Lent<float>(most), Lent<float>(most),
                                          Lent<float>(most), Lent<float>(most), Lent<float>(most), Lent<float>(most)};
@@ -59,8 +51,6 @@ inline Lent<int32_t> free_space(most);
 struct Extra {
     int targets = 0, free = 0, rounds = 0;
 };
-
-inline std::size_t with(std::size_t cells, int extra) { return extra < 0 && cells == 0 ? 0 : cells + std::size_t(extra); }
 
 inline void lend(const FlexCall &c) {
     const auto &l = c.items;
@@ -83,12 +73,6 @@ inline bool inputs_kept() {
         codes[0].size(), floats[3].data(), floats[3].size(), floats[4].data(), floats[4].size(), floats[5].data(), floats[5].size(),       \
         floats[6].data(), floats[6].size(), floats[7].data(), floats[7].size(), codes[1].data(), codes[1].size(), codes[2].data(),         \
         codes[2].size()
-
-// The first cells hold these bits, and the others those of before.
-template <class T>
-bool holds(const Lent<T> &list, const std::vector<T> &cells) {
-    return list.kept_from(cells.size()) && (cells.empty() || !std::memcmp(list.data(), cells.data(), cells.size() * sizeof(T)));
-}
 
 inline void try_line(const FlexCall &c, Extra x = {}) {
     lend(c);

@@ -1,7 +1,11 @@
 // The pass over the unpacked lists, and its answer as it crosses to C. No entry points.
 ghost use mathlib.Core.Path.{_≡_};
-ghost use Rattle.passexports.specs.Passed.{cRefused, cPassed};
+ghost use Prim.Native.Nat.{_*_, _≤_};
+ghost use lib.ListN.{length, take};
+ghost use Rattle.pass.specs.Pass.{lent};
+ghost use Rattle.passexports.specs.Passed.{cRefused, cPassed, PassedFromC};
 use crate::CPassed;
+use container::Container;
 use crossing::CAnswer;
 use pass::PassAnswer;
 
@@ -18,7 +22,7 @@ fn refused_to_c(r: CAnswer) -> CPassed
     }
 }
 
-pub fn passed_to_c(a: PassAnswer) -> CPassed
+fn passed_to_c(a: PassAnswer) -> CPassed
     ensures { λ p. ⌜ p ≡ cPassed a ⌝ }
 {
     match a {
@@ -36,4 +40,40 @@ pub fn passed_to_c(a: PassAnswer) -> CPassed
         },
         PassAnswer::Refused(why) => refused_to_c(crossing::refusal_to_c(why)),
     }
+}
+
+// The pass over the first m items of the unpacked lists.
+pub fn finish<'a>(
+    c: Container,
+    m: usize,
+    nums: &'a [f32],
+    codes: &'a [u32],
+    placed: &mut [f32],
+    lines: &mut [f32],
+    counts: &mut [u32],
+    rounds: &mut [u32],
+    free: &mut [i32],
+    work: &mut [u32],
+    sums: &mut [f64],
+) -> CPassed
+    requires { ⌜ (14 * m ≤ length (now nums)) × (8 * m ≤ length (now codes)) ⌝ }
+    ensures { λ r. ⌜ PassedFromC c m (take (14 * m) (now (nums .entry))) (take (8 * m) (now (codes .entry))) (lent (now (placed .entry)) (now (lines .entry)) (now (counts .entry)) (now (rounds .entry)) (now (free .entry)) (now (work .entry)) (now (sums .entry)))
+        r (lent (now (placed .exit)) (now (lines .exit)) (now (counts .exit)) (now (rounds .exit)) (now (free .exit)) (now (work .exit)) (now (sums .exit))) ⌝ }
+{
+    let a = 14 * m;
+    let e = 8 * m;
+    let answer = pass::pass(
+        c,
+        m,
+        &nums[..a],
+        &codes[..e],
+        placed,
+        lines,
+        counts,
+        rounds,
+        free,
+        work,
+        sums,
+    );
+    passed_to_c(answer)
 }

@@ -1,4 +1,11 @@
 // The whole pass for a host in C or C++: its items are a slice of structs, its answer is a plain struct.
+ghost use lib.ListN.{length};
+ghost use Rattle.pass.specs.Pass.{lent};
+ghost use Rattle.records.specs.Items.{numbersOf, codesOf};
+ghost use Rattle.passexports.specs.Passed.{PassedFromC};
+use container::Container;
+use records::Item;
+
 pub mod finishing;
 
 // An answer's number, its place, its lines, its rounds and its inner cross size. `at` says where: 0 nowhere, 1 the container, 2 the item `place`.
@@ -10,4 +17,39 @@ pub struct CPassed {
     pub lines: u32,
     pub rounds: u32,
     pub inner_cross: f32,
+}
+
+// Of 1,025 items the pass refuses as of any more, so no more are unpacked.
+#[no_mangle]
+pub extern "C" fn fratolivem_pass(
+    c: Container,
+    items: &[Item],
+    placed: &mut [f32],
+    lines: &mut [f32],
+    counts: &mut [u32],
+    rounds: &mut [u32],
+    free: &mut [i32],
+    work: &mut [u32],
+    sums: &mut [f64],
+) -> CPassed
+    ensures { λ r. ⌜ PassedFromC c (length (now (items .entry))) (numbersOf (now (items .entry))) (codesOf (now (items .entry))) (lent (now (placed .entry)) (now (lines .entry)) (now (counts .entry)) (now (rounds .entry)) (now (free .entry)) (now (work .entry)) (now (sums .entry)))
+        r (lent (now (placed .exit)) (now (lines .exit)) (now (counts .exit)) (now (rounds .exit)) (now (free .exit)) (now (work .exit)) (now (sums .exit))) ⌝ }
+{
+    let m = records::held(items.len());
+    let mut nums = [0.0f32; 14350];
+    let mut codes = [0u32; 8200];
+    records::unpack(items, m, &mut nums, &mut codes);
+    finishing::finish(
+        c,
+        m,
+        &nums,
+        &codes,
+        placed,
+        lines,
+        counts,
+        rounds,
+        free,
+        work,
+        sums,
+    )
 }

@@ -28,5 +28,6 @@ pub lines-told : (c : CCross) (k : ℕ) (l z₀ o₀ : List Float) {n : CrossNum
     → cAligned r z o ≡ linesFromC (lines.linesCall (numbersOf c) k l z₀ o₀)
 lines-told c k l z₀ o₀ {n} {r} {a} {z} {o} p q t = ap (λ (x : CSized). cAligned x z o) t ∙ ap linesFromC (q ∙ ap (λ (n : CrossNumbers). lines.linesCall n k l z₀ o₀) p)
 
-pub across-told : {r : CAnswer} {a : Answer} {z s e o : List Float} {l : across.AcrossResult} → r ≡ cAnswer a → across.result a z s e o ≡ l → cAcross r z s e o ≡ acrossFromC l
-across-told {r} {a} {z} {s} {e} {o} p q = ap (λ (x : CAnswer). cAcross x z s e o) p ∙ ap acrossFromC q
+pub across-told : (line : Float) (reversed : ℕ) (ls : Items) (k b : List ℕ) (z₀ s₀ e₀ o₀ : List Float) {r : CAnswer} {a : Answer} {z s e o : List Float} → across.result a z s e o ≡ across.acrossCall line reversed ls k b z₀ s₀ e₀ o₀ → r ≡ cAnswer a
+    → cAcross r z s e o ≡ acrossFromC (across.acrossCall line reversed ls k b z₀ s₀ e₀ o₀)
+across-told line reversed ls k b z₀ s₀ e₀ o₀ {r} {a} {z} {s} {e} {o} q t = ap (λ (x : CAnswer). cAcross x z s e o) t ∙ ap acrossFromC q

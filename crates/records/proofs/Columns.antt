@@ -2,11 +2,11 @@
 -- after i items a column is i fields, then the cells that it had. Assumes nothing.
 use mathlib.Core.Path.{_≡_, refl, sym, _∙_, ap, subst}
 use Prim.Native.Nat.{ℕ, zero, suc, _+_, _-_, _*_, _≤_, _<_}
-use native.Mathlib.Nat.{add-assoc, add-comm, add-zero, zero-add, suc-add, zero-mul, suc-mul, le-refl}
+use native.Mathlib.Nat.{add-assoc, add-comm, add-zero, zero-add, suc-add, zero-mul, suc-mul, le-refl, not-suc-le-zero, le-of-suc-le-suc}
 use native.Mathlib.Omega.{arith}
 use mathlib.Core.List.{List, [], _∷_, _++_, map, map-append, append-assoc, append-nil}
 use lib.ListN.{length, set, take, drop, getD, length-set, length-map, length-append, length-drop, take-append-drop, drop-of-length-le}
-use lib.Seq.{length-take-le, take-suc, drop-cons, set-append-left, set-at, append-snoc, drop-drop, take-at}
+use lib.Seq.{length-take-le, take-suc, drop-cons, set-append-left, set-at, append-snoc, drop-drop, take-at, drop-append-add}
 use Rattle.records.specs.Items.{stored}
 use Rattle.records.proofs.Stored.{length-stored}
 
@@ -112,6 +112,19 @@ module _ {A X : Type 0} (m : ℕ) (xs : List X) where
   taken-all f fs rest few =
       take-at (joined (map f (take m xs)) fs) rest (length (f ∷ fs) * m)
       (length-joined (map f (take m xs)) fs few ∙ ap (λ (n : ℕ). n + length fs * m) (length-fields f m few) ∙ add-comm m (length fs * m) ∙ sym (suc-mul (length fs) m))
+
+  -- list k of m cells is field k of the items
+  columns-at : (fs : List (X → A)) (rest : List A) (k : ℕ) (d : X → A) → m ≤ length xs → k < length fs → take m (drop (k * m) (columns fs rest)) ≡ map (getD fs k d) (take m xs)
+  columns-at [] rest k d few h = absurd (not-suc-le-zero h)
+  columns-at (f ∷ fs) rest zero d few h =
+      ap (λ (n : ℕ). take m (drop n (map f (take m xs) ++ columns fs rest))) (zero-mul m) ∙ take-at (map f (take m xs)) (columns fs rest) m (length-fields f m few)
+  columns-at (f ∷ fs) rest (suc k) d few h =
+      ap (λ (n : ℕ). take m (drop n (map f (take m xs) ++ columns fs rest))) (suc-mul k m ∙ add-comm (k * m) m ∙ ap (λ (n : ℕ). n + k * m) (sym (length-fields f m few)))
+      ∙ ap (take m) (drop-append-add (map f (take m xs)) (columns fs rest) (k * m)) ∙ columns-at fs rest k d few (le-of-suc-le-suc h)
+
+  pub joined-at : (f : X → A) (fs : List (X → A)) (k : ℕ) (d : X → A) → m ≤ length xs → k < length (f ∷ fs) → take m (drop (k * m) (joined (map f (take m xs)) fs)) ≡ map (getD (f ∷ fs) k d) (take m xs)
+  joined-at f fs k d few h =
+      ap (λ (l : List A). take m (drop (k * m) l)) (sym (append-nil (joined (map f (take m xs)) fs)) ∙ joined-rest (map f (take m xs)) fs []) ∙ columns-at (f ∷ fs) [] k d few h
 
   -- ---- the first i items stored, one after another
   abbrev pub laid : (X → List A) → X → List A → ℕ → List A

@@ -1,17 +1,19 @@
 -- All items stored are `numbersOf` and `codesOf`, and the cells after them as they were: `Columns` at an item's fields. Assumes nothing.
-use mathlib.Core.Path.{_≡_}
-use Prim.Native.Nat.{ℕ, _*_, _≤_}
-use mathlib.Core.List.{List, [], _∷_, _++_}
+use mathlib.Core.Path.{_≡_, subst}
+use Prim.Native.Nat.{ℕ, _*_, _≤_, _<_}
+use native.Mathlib.Nat.{le-refl}
+use mathlib.Core.List.{List, [], _∷_, _++_, map}
 use mathlib.Core.Bool.{false}
 use lib.IntN.{pos}
 use lib.Ieee.{Float, fin}
 use lib.ListN.{length, take, drop, getD}
+use lib.Seq.{take-length}
 use Rattle.records.specs.declared.Item.{Item}
 use Rattle.records.specs.Items.{numbersIn, codesIn, numbersOf, codesOf}
-use Rattle.records.proofs.Columns.{laid, length-laid, laid-all, taken-all}
+use Rattle.records.proofs.Columns.{laid, length-laid, laid-all, taken-all, joined-at}
 
 -- what stands past the end of a list of items
-abbrev nought : Float
+abbrev pub nought : Float
 nought = fin false 0 (pos 0)
 
 abbrev pub blank : Item
@@ -56,13 +58,13 @@ length-numbers m xs l i = length-laid m xs numbersIn blank l i
 pub length-codes : (m : ℕ) (xs : List Item) (l : List ℕ) (i : ℕ) → length (codesLaid m xs l i) ≡ length l
 length-codes m xs l i = length-laid m xs codesIn blank l i
 
-abbrev numberFields : List (Item → Float)
+abbrev pub numberFields : List (Item → Float)
 numberFields =
     (λ (x : Item). x .«main_minimum») ∷ (λ (x : Item). x .«main_maximum») ∷ (λ (x : Item). x .«main_edges») ∷ (λ (x : Item). x .grow) ∷ (λ (x : Item). x .shrink) ∷ (λ (x : Item). x .«main_start»)
     ∷ (λ (x : Item). x .«main_end») ∷ (λ (x : Item). x .«cross_measured») ∷ (λ (x : Item). x .«cross_minimum») ∷ (λ (x : Item). x .«cross_maximum») ∷ (λ (x : Item). x .«cross_edges»)
     ∷ (λ (x : Item). x .«cross_start») ∷ (λ (x : Item). x .«cross_end») ∷ []
 
-abbrev codeFields : List (Item → ℕ)
+abbrev pub codeFields : List (Item → ℕ)
 codeFields =
     (λ (x : Item). x .«auto_main_start») ∷ (λ (x : Item). x .«auto_main_end») ∷ (λ (x : Item). x .«has_cross_maximum») ∷ (λ (x : Item). x .«auto_cross_start») ∷ (λ (x : Item). x .«auto_cross_end»)
     ∷ (λ (x : Item). x .«align_self») ∷ (λ (x : Item). x .«auto_cross_size») ∷ []
@@ -79,3 +81,14 @@ taken-numbers m xs rest few = taken-all m xs (λ (x : Item). x .«main_base») n
 
 pub taken-codes : (m : ℕ) (xs : List Item) (rest : List ℕ) → m ≤ length xs → take (8 * m) (codesOf (take m xs) ++ rest) ≡ codesOf (take m xs)
 taken-codes m xs rest few = taken-all m xs (λ (x : Item). x .«has_main_maximum») codeFields rest few
+
+-- list k of so many cells is field k of the items, in an item's own order
+pub numbers-at : (xs : List Item) (k : ℕ) → k < 14 → take (length xs) (drop (k * length xs) (numbersOf xs)) ≡ map (getD ((λ (x : Item). x .«main_base») ∷ numberFields) k (λ (x : Item). nought)) xs
+numbers-at xs k h =
+    subst (λ (ys : List Item). take (length xs) (drop (k * length xs) (numbersOf ys)) ≡ map (getD ((λ (x : Item). x .«main_base») ∷ numberFields) k (λ (x : Item). nought)) ys) (take-length xs)
+    (joined-at (length xs) xs (λ (x : Item). x .«main_base») numberFields k (λ (x : Item). nought) (le-refl (length xs)) h)
+
+pub codes-at : (xs : List Item) (k : ℕ) → k < 8 → take (length xs) (drop (k * length xs) (codesOf xs)) ≡ map (getD ((λ (x : Item). x .«has_main_maximum») ∷ codeFields) k (λ (x : Item). 0)) xs
+codes-at xs k h =
+    subst (λ (ys : List Item). take (length xs) (drop (k * length xs) (codesOf ys)) ≡ map (getD ((λ (x : Item). x .«has_main_maximum») ∷ codeFields) k (λ (x : Item). 0)) ys) (take-length xs)
+    (joined-at (length xs) xs (λ (x : Item). x .«has_main_maximum») codeFields k (λ (x : Item). 0) (le-refl (length xs)) h)

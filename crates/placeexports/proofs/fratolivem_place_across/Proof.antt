@@ -1,4 +1,6 @@
 -- `placeexports::fratolivem_place_across` meets its contract: the call inside answers and writes. Assumes nothing.
+use denote.Ref.{now}
+use Rattle.crossaxis.specs.CrossSize.{items}
 use Rattle.placeexports.proofs.Told.{across-told}
 use borrow.Author.Needs.{needs}
 use Rattle.placeexports.proofs.fratolivem_place_across.Statement.{statement}
@@ -23,7 +25,11 @@ same-length-4 : tie.Need-same-length-4
 same-length-4 c = search needs
 
 returns : tie.Need-returns
-returns c = across-told (c .to-c .ensures) (c .before .before .before .before .before .before .before .before .before .place-across .ensures)
+returns c =
+    let a = c .before .before .before .before .before .before .before .before .before .before .before .before .before .before .before .before .before .before .before .before .before .before .before .before .before .before .before .before .before .args in
+    across-told (a .line) (a .reversed) (items (now (a .measured)) (now (a .minimum)) (now (a .maximum)) (now (a .has-maximum)) (now (a .edges)) (now (a .start)) (now (a .end)) (now (a .auto-start)) (now (a .auto-end)))
+    (now (a .align-self)) (now (a .auto-size)) (now (a .sizes)) (now (a .used-start)) (now (a .used-end)) (now (a .offsets))
+    (c .before .before .before .before .before .before .before .before .before .place-across .ensures) (c .to-c .ensures)
 
 pub fratolivem-place-across-spec : {M : Type 1} → statement M
 fratolivem-place-across-spec =

@@ -1,0 +1,163 @@
+-- What the checks show of a pass: what every stage of it asks. By the laws of accepted numbers, of flexing's table and of breaking. Assumes nothing.
+use mathlib.Core.Path.{_≡_, refl, sym, ap, _∙_, subst}
+use mathlib.Core.Bool.{Bool, true, false, cond}
+use mathlib.Core.List.{List, [], _∷_, _++_}
+use Prim.Native.Nat.{ℕ, zero, suc, _+_, _*_, _≤_, _<_}
+use native.Mathlib.Nat.{le-trans, le-of-eq}
+use native.Mathlib.Omega.{arith}
+use lib.Dec.{eqb, ltb}
+use lib.ListN.{length}
+use lib.IntN.{ℤ, pos}
+use lib.Ieee.{Float}
+use borrow.Author.Tests.{ltb-false}
+use Rattle.grid.specs.Grid.{Length, sixtyFourths, cleaned}
+use Rattle.grid.proofs.Meaning.{at-of-grid, grid-of-at}
+use Rattle.grid.proofs.Cleaned.{cleaned-at}
+use Rattle.refusal.specs.Domain.{float, code, shape, summed, then}
+use Rattle.refusal.specs.Optional.{optional}
+use Rattle.refusal.specs.Marks.{leastMark, judged, AllFine, Sound}
+use Rattle.refusal.specs.declared.Refusal.{Refusal}
+use Rattle.refusal.specs.declared.Verdict.{Verdict}
+use Rattle.refusal.specs.declared.Verdict.the-variants.{Passed}
+use Rattle.refusal.specs.declared.Verdict.the-variants as verdict
+use Rattle.refusal.specs.declared.Kind.the-variants as kind
+use Rattle.refusal.proofs.Checks.{judged-checked, accepted, then-passed, shape-passed, fine-append, fine-length, fine-size, fine-code}
+use Rattle.breaking.specs.Steps.{LengthLimit}
+use Rattle.flexing.specs.Flex.{outerSum}
+use Rattle.flexing.specs.Items.{itemsOf}
+use Rattle.flexing.specs.Cells.{itemsIn, Tabled, Held}
+use Rattle.flexing.proofs.Columns.{tabled-of, items-are}
+use Rattle.flexcalls.specs.Call.{inputOf}
+use Rattle.flexcalls.proofs.Accept.{inner-length, gap-length, measured-of, refused-then, passed-then}
+use Rattle.wrapping.specs.declared.Mode.the-variants.{Single, Greedy, Balanced}
+use Rattle.wrapping.specs.Wrapping as wrapping
+use Rattle.wrapping.proofs.Given.{table-breakable}
+use Rattle.crossaxis.specs.Numbers.{boundNumbers, crossNumbers}
+use Rattle.crossaxis.specs.declared.numbers.CrossNumbers.{CrossNumbers}
+use Rattle.container.specs.declared.Container.{Container}
+use Rattle.container.specs.Columns.{column, mainLists, crossItems, alignSelf, autoSize}
+use Rattle.container.specs.Container.{spaceOf, limitOf, balances, crossNumbersOf}
+use Rattle.container.specs.Stages.{Listed}
+use Rattle.passchecks.specs.Checks.{containerNumbers, passInput, passSum, passVerdict}
+use Rattle.passchecks.proofs.Taken.{number-length}
+use Rattle.passchecks.proofs.Rooms.{Roomy, roomy-of}
+use Rattle.pass.specs.Pass.{Lent, modeOf}
+use Rattle.pass.specs.Stages.{Checked, Accepted}
+
+-- ---- the container's numbers
+
+limit-length : (k : ℕ) (x : Float) → AllFine (optional (eqb k 0) (float kind.Length x)) → LengthLimit (spaceOf k x)
+limit-length zero x f = fine-length (f .0)
+limit-length (suc zero) x f = tt
+limit-length (suc (suc k)) x f = tt
+
+wrap-code : (c : CrossNumbers) → AllFine (crossNumbers c) → c .wrap ≤ 4
+wrap-code c f =
+    let a = fine-append (boundNumbers (c .definite) (c .inner)) _ f in
+    let b = fine-append (boundNumbers (c .floored) (c .minimum)) _ (a .1) in
+    let d = fine-append (boundNumbers (c .capped) (c .maximum)) _ (b .1) in
+    fine-code (d .1 .1 .0)
+
+-- ---- room for the lines
+
+balanced-code : (wrap : ℕ) → 3 ≤ wrap → wrap ≤ 4 → balances wrap ≡ true
+balanced-code zero h l = absurd (omega arith)
+balanced-code (suc zero) h l = absurd (omega arith)
+balanced-code (suc (suc zero)) h l = absurd (omega arith)
+balanced-code (suc (suc (suc zero))) h l = refl
+balanced-code (suc (suc (suc (suc zero)))) h l = refl
+balanced-code (suc (suc (suc (suc (suc k))))) h l = absurd (omega arith)
+
+room-of : (wrap n : ℕ) (b : wrapping.Lent) → wrap ≤ 4 → n ≤ length (b .counts) → (balances wrap ≡ true → (n * n + 3 * n ≤ length (b .work)) × (3 * n ≤ length (b .sums))) → wrapping.Room (modeOf wrap) n b
+room-of wrap n b l h w = go (eqb wrap 0) (ltb wrap 3) refl
+  where
+    go : (p q : Bool) → ltb wrap 3 ≡ q → wrapping.Room (cond p Single (cond q Greedy Balanced)) n b
+    go true q e = h
+    go false true e = h
+    go false false e = let r = w (balanced-code wrap (ltb-false wrap 3 e) l) in (h, r .0, r .1)
+
+-- "-0.0 reads as 0"
+clean-size : (x : Float) → Length x → sixtyFourths (cleaned x) ≡ sixtyFourths x
+clean-size x l = grid-of-at (cleaned x) (sixtyFourths x) (cleaned-at 64 (at-of-grid x (l .grid))) .1
+
+-- ---- the table holds the items
+
+pub items-in : {n : ℕ} (t : List Float) {x : List Float} {codes : List ℕ} → Listed n x codes → Held (mainLists n x codes) t → itemsIn t 0 n ≡ itemsOf (mainLists n x codes)
+items-in {n} t {x} {codes} l held = ap (itemsIn t 0) (sym (number-length l 0 (omega arith))) ∙ items-are (mainLists n x codes) t held
+
+-- ---- the verdict, from checks 1 to 5 and check 6
+
+module _ (c : Container) (n : ℕ) (x : List Float) (codes : List ℕ) (room : Bool) where
+  abbrev first : Verdict
+  first = then (shape n room) (judged (leastMark (passInput c n x codes)))
+
+  pub refused-so : (why : Refusal) → first ≡ verdict.Refused why → passVerdict c n x codes room ≡ verdict.Refused why
+  unfolding passVerdict
+  refused-so why h = refused-then (shape n room) (passInput c n x codes) (summed (passSum c n x codes)) why (λ e. shape-passed n room e .0) h
+
+  pub passed-so : first ≡ Passed → passVerdict c n x codes room ≡ summed (passSum c n x codes)
+  unfolding passVerdict
+  passed-so h = passed-then (shape n room) (passInput c n x codes) (summed (passSum c n x codes)) (λ e. shape-passed n room e .0) h
+
+  pub sound-so : first ≡ Passed → (shape n room ≡ Passed) × Sound (passInput c n x codes)
+  sound-so h =
+      let p = then-passed (shape n room) (judged (leastMark (passInput c n x codes))) h in
+      let few = shape-passed n room (p .0) .0 in
+      (p .0, accepted (passInput c n x codes) Passed (sym (judged-checked (passInput c n x codes) few Passed) ∙ ap (λ (v : Verdict). then v Passed) (p .1)) .0)
+
+-- ---- all of it
+
+module _ {c : Container} {n : ℕ} {x : List Float} {codes : List ℕ} {b : Lent} (k : Checked c n x codes b) where
+  abbrev given : Roomy n (c .wrap) (length x) (length codes) (length (b .placed)) (length (b .lines)) (length (b .counts)) (length (b .rounds)) (length (b .free)) (length (b .work)) (length (b .sums))
+  given = roomy-of n (c .wrap) (length x) (length codes) (length (b .placed)) (length (b .lines)) (length (b .counts)) (length (b .rounds)) (length (b .free)) (length (b .work)) (length (b .sums)) (k .room)
+
+  pub listed-of : Listed n x codes
+  listed-of = record { few = given .few; numbers-long = given .numbers-long; codes-long = given .codes-long }
+
+  count-is : length (column n 0 x) ≡ n
+  count-is = number-length listed-of 0 (omega arith)
+
+  sound-main : Sound (inputOf (c .«inner_main») (c .«gap_main») (mainLists n x codes))
+  sound-main =
+      let i = inputOf (c .«inner_main») (c .«gap_main») (mainLists n x codes) in
+      record {
+        container = fine-append (i .container) (containerNumbers c) (k .sound .container) .0;
+        items = λ j h. fine-append (i .item j) _ (k .sound .items j (le-trans {m = length (column n 0 x)} h (le-of-eq count-is))) .0;
+      }
+
+  own : AllFine (containerNumbers c)
+  own = fine-append (inputOf (c .«inner_main») (c .«gap_main») (mainLists n x codes) .container) (containerNumbers c) (k .sound .container) .1
+
+  limit-and-cross : AllFine (optional (eqb (c .«limit_kind») 0) (float kind.Length (c .limit))) × AllFine (crossNumbers (crossNumbersOf c))
+  limit-and-cross = fine-append (optional (eqb (c .«limit_kind») 0) (float kind.Length (c .limit))) (crossNumbers (crossNumbersOf c)) (own .1 .1 .1 .1)
+
+  pub gap-is : Length (cleaned (c .«gap_main»))
+  gap-is = gap-length (c .«inner_main») (c .«gap_main») (mainLists n x codes) sound-main
+
+  module _ (t : List Float) (held : Held (mainLists n x codes) t) where
+    pub table-is : Tabled t n
+    table-is = subst (Tabled t) count-is (tabled-of (mainLists n x codes) t held (measured-of (c .«inner_main») (c .«gap_main») (mainLists n x codes) sound-main))
+
+    pub accepted-of : outerSum (cleaned (c .«gap_main»)) (itemsIn t 0 n) ≤ 16777216 → Accepted c n t x codes b
+    accepted-of w =
+        let g = fine-size (sound-main .container .1 .0) in
+        record {
+          main = record {
+            listed = listed-of;
+            held = held;
+            tabled = table-is;
+            inner-is = inner-length (c .«inner_main») (c .«gap_main») (mainLists n x codes) sound-main;
+            gap-is = gap-is;
+            breaks = record {
+              few = given .few;
+              breakable = table-breakable t n (cleaned (c .«gap_main»)) table-is w (limitOf c) (given .few) (limit-length (c .«limit_kind») (c .limit) (limit-and-cross .0)) gap-is (g .1 .0, clean-size (c .«gap_main») (g .0) ∙ g .1 .1);
+              room = room-of (c .wrap) n (wrapping.lent (b .counts) (b .work) (b .sums)) (wrap-code (crossNumbersOf c) (limit-and-cross .1)) (given .counts-room) (given .work-room);
+            };
+            within = w;
+            placed-room = given .placed-room;
+            counts-room = given .counts-room;
+            rounds-room = given .rounds-room;
+            free-room = given .free-room;
+          };
+          lines-room = given .lines-room;
+        }

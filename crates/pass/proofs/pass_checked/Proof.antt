@@ -1,0 +1,105 @@
+-- The items are read, check 6 is made, and then all stages. Assumes nothing.
+use mathlib.Core.Path.{_≡_, refl, sym, ap, _∙_, subst}
+use native.Mathlib.Nat.{le-trans, le-of-eq}
+use lib.Ieee.{Float}
+use denote.Ref.{now}
+use Rattle.grid.specs.Grid.{Length, cleaned}
+use Rattle.refusal.specs.Domain.{summed}
+use Rattle.refusal.proofs.Checks.{summed-passed}
+use Rattle.flexing.specs.Flex.{outerSum}
+use Rattle.flexing.specs.Cells.{itemsIn}
+use Rattle.passchecks.specs.Checks.{passSum}
+use Rattle.pass.specs.Pass.{lent}
+use Rattle.pass.proofs.AcceptLaws.{items-in, listed-of, gap-is, table-is, accepted-of}
+use Rattle.pass.proofs.LaidLaws.{answered-as}
+use borrow.Author.Needs.{needs}
+use Rattle.pass.proofs.pass_checked.Statement.{statement}
+use Rattle.pass.proofs.pass_checked.Tie as tie
+use Rattle.pass.proofs.pass_checked.Reads as reads
+use Rattle.pass.proofs.pass_checked.Lts as lts
+use Rattle.flexing.proofs.sum.outer_sum.Reads as outer-sum-reads
+use Rattle.grid.proofs.clean.Reads as clean-reads
+use Rattle.pass.proofs.stages.lay_out.Reads as lay-out-reads
+use Rattle.pass.proofs.stages.read_main.Reads as read-main-reads
+use Rattle.refusal.proofs.check_sum.Reads as check-sum-reads
+
+read-main-requires : tie.Need-read-main-requires
+read-main-requires c κs = (listed-of (c .before .before .before .before .before .before .before .before .before .pre), refl)
+
+-- the sum of check 6
+sum-is : (c : tie.After-outer-sum) → let s = c .before .before .before .before .before .before .before .before .before .before .before .before .before in c .outer-sum .result ≡ outerSum (cleaned (s .args .c .«gap_main»)) (itemsIn (c .before .before .before .read-main .last .1 .1 .1 .0) 0 (s .args .n))
+sum-is c = let s = c .before .before .before .before .before .before .before .before .before .before .before .before .before in c .outer-sum .ensures ∙ ap (λ (g : Float). outerSum g (itemsIn (c .before .before .before .read-main .last .1 .1 .1 .0) 0 (s .args .n))) (c .before .before .clean .ensures)
+
+pass-sum : (c : tie.After-outer-sum) → let s = c .before .before .before .before .before .before .before .before .before .before .before .before .before in c .outer-sum .result ≡ passSum (s .args .c) (s .args .n) (now (s .args .numbers)) (now (s .args .codes))
+pass-sum c = let s = c .before .before .before .before .before .before .before .before .before .before .before .before .before in sum-is c ∙ ap (outerSum (cleaned (s .args .c .«gap_main»))) (items-in (c .before .before .before .read-main .last .1 .1 .1 .0) (listed-of (s .pre)) (c .before .before .before .read-main .ensures))
+
+clean-requires : tie.Need-clean-requires
+clean-requires c κs = search needs
+
+outer-sum-requires : tie.Need-outer-sum-requires
+outer-sum-requires c κs = let s = c .before .before .before .before .before .before .before .before .before .before .before .before in (listed-of (s .pre) .few, subst Length (sym (c .before .clean .ensures)) (gap-is (s .pre)), table-is (s .pre) (c .before .before .read-main .last .1 .1 .1 .0) (c .before .before .read-main .ensures))
+
+check-sum-requires : tie.Need-check-sum-requires
+check-sum-requires c κs = search needs
+
+enum-known-v : tie.Need-enum-known-v
+enum-known-v c = search needs
+
+enum-told : tie.Need-enum-told
+enum-told c = search needs
+
+lay-out-requires : tie.Need-lay-out-requires
+lay-out-requires c κs = let s = c .before .before .before .before .before .before .before .before .before .before .before .before .before .before .before .before .before .before .before .before .before .before .before .before in
+    let w = summed-passed (c .before .before .before .before .before .before .before .before .before .before .before .outer-sum .result) (sym (c .before .before .before .before .before .before .before .before .before .before .check-sum .ensures) ∙ c .before .before .before .before .before .before .before .before .enum-told .given .1) in
+    accepted-of (s .pre) (c .before .before .before .before .before .before .before .before .before .before .before .before .before .before .read-main .last .1 .1 .1 .0) (c .before .before .before .before .before .before .before .before .before .before .before .before .before .before .read-main .ensures) (le-trans {m = c .before .before .before .before .before .before .before .before .before .before .before .outer-sum .result} (le-of-eq (sym (sum-is (c .before .before .before .before .before .before .before .before .before .before .before)))) w)
+
+returns : tie.Need-returns
+returns c = (sym (ap summed (pass-sum (c .before .before .before .before))) ∙ sym (c .before .before .before .check-sum .ensures) ∙ c .before .v .given .1, refl)
+
+same-length : tie.Need-same-length
+same-length c = c .before .before .before .before .before .before .before .before .before .before .before .before .before .lay-out .kept .1 .1 .1 .1 .1 .0
+
+same-length-2 : tie.Need-same-length-2
+same-length-2 c = c .before .before .before .before .before .before .before .before .before .before .before .before .before .lay-out .kept .1 .1 .1 .1 .1 .1 .0
+
+same-length-3 : tie.Need-same-length-3
+same-length-3 c = c .before .before .before .before .before .before .before .before .before .before .before .before .before .lay-out .kept .1 .1 .1 .1 .1 .1 .1 .0
+
+same-length-4 : tie.Need-same-length-4
+same-length-4 c = c .before .before .before .before .before .before .before .before .before .before .before .before .before .lay-out .kept .1 .1 .1 .1 .1 .1 .1 .1 .0
+
+same-length-5 : tie.Need-same-length-5
+same-length-5 c = c .before .before .before .before .before .before .before .before .before .before .before .before .before .lay-out .kept .1 .1 .1 .1 .1 .1 .1 .1 .1 .0
+
+same-length-6 : tie.Need-same-length-6
+same-length-6 c = c .before .before .before .before .before .before .before .before .before .before .before .before .before .lay-out .kept .1 .1 .1 .1 .1 .1 .1 .1 .1 .1 .0
+
+same-length-7 : tie.Need-same-length-7
+same-length-7 c = c .before .before .before .before .before .before .before .before .before .before .before .before .before .lay-out .kept .1 .1 .1 .1 .1 .1 .1 .1 .1 .1 .1 .0
+
+returns-2 : tie.Need-returns-2
+returns-2 c = let a = c .before .before .before .before .before .before .before .before .before .before .before .before .before .before .before .before .before .before .before .before .before .before .before .before .before .before .before .before .before .before .before .before .before .before .before .before .before .before .args in
+    let f = c .before .before .before .before .before .before .before .before .before .before .before .before .before .lay-out in
+    answered-as (a .c) (a .n) (now (a .numbers)) (now (a .codes)) (lent (now (a .placed)) (now (a .lines)) (now (a .counts)) (now (a .rounds)) (now (a .free)) (now (a .work)) (now (a .sums))) (f .result) (lent (f .last .1 .1 .1 .1 .1 .0) (f .last .1 .1 .1 .1 .1 .1 .0) (f .last .1 .1 .1 .1 .1 .1 .1 .0) (f .last .1 .1 .1 .1 .1 .1 .1 .1 .0) (f .last .1 .1 .1 .1 .1 .1 .1 .1 .1 .0) (f .last .1 .1 .1 .1 .1 .1 .1 .1 .1 .1 .0) (f .last .1 .1 .1 .1 .1 .1 .1 .1 .1 .1 .1 .0))
+    (sym (sym (ap summed (pass-sum (c .before .before .before .before .before .before .before .before .before .before .before .before .before .before .before .before .before .before .before .before .before .before .before .before .before))) ∙ sym (c .before .before .before .before .before .before .before .before .before .before .before .before .before .before .before .before .before .before .before .before .before .before .before .before .check-sum .ensures) ∙ c .before .before .before .before .before .before .before .before .before .before .before .before .before .before .before .before .before .before .before .before .before .before .enum-told .given .1)) (f .ensures)
+
+pub pass-checked-spec : {M : Type 1} → statement M
+pass-checked-spec =
+    tie.close
+    (tie.spec
+    read-main-requires
+    clean-requires
+    outer-sum-requires
+    check-sum-requires
+    enum-known-v
+    enum-told
+    lay-out-requires
+    returns
+    same-length
+    same-length-2
+    same-length-3
+    same-length-4
+    same-length-5
+    same-length-6
+    same-length-7
+    returns-2)
