@@ -8,6 +8,7 @@ use lib.ListN.{length, take, replicate, length-replicate}
 use lib.IntN.{ℤ}
 use lib.Ieee.{Float}
 use Rattle.grid.specs.Grid.{cleaned}
+use Rattle.breaking.specs.declared.AvailableSpace.{AvailableSpace}
 use Rattle.breaking.specs.Calls.{written}
 use Rattle.flexing.specs.declared.Item.{Item}
 use Rattle.flexing.specs.Items.{itemAt, itemsOf}
@@ -38,16 +39,23 @@ listed-counts Single n lines b = refl
 listed-counts Greedy n lines b = refl
 listed-counts Balanced n lines b = refl
 
-module _ (c : Container) (n : ℕ) (t : List Float) {b a : wrapping.Lent} {k : ℕ} (w : Broken c n t b k a) where
-  lines-back : take k (a .counts) ≡ w .lines
-  lines-back =
+module _ (mode : Mode) (limit : AvailableSpace) (gap : Float) (minimum : ℕ) (sizes : List Float) {b a : wrapping.Lent} {k : ℕ} (w : wrapping.Wrapped mode limit gap minimum sizes b k a) where
+  wrapped-back : take k (a .counts) ≡ w .lines
+  wrapped-back =
       ap (λ (j : ℕ). take j (a .counts)) (w .number)
-      ∙ ap (take (length (w .lines))) (ap (λ (l : wrapping.Lent). l .counts) (w .cells) ∙ listed-counts (modeOf (c .wrap)) (length (outerSizes (itemsIn t 0 n))) (w .lines) b)
-      ∙ read-back (length (outerSizes (itemsIn t 0 n))) (w .lines) (b .counts)
+      ∙ ap (take (length (w .lines))) (ap (λ (l : wrapping.Lent). l .counts) (w .cells) ∙ listed-counts mode (length sizes) (w .lines) b)
+      ∙ read-back (length sizes) (w .lines) (b .counts)
 
   -- they divide the items
+  pub wrapped-divides : Divides (length sizes) (take k (a .counts))
+  wrapped-divides = subst (Divides (length sizes)) (sym wrapped-back) (lines-divide limit gap minimum sizes mode (w .lines) (w .lines-are))
+
+module _ (c : Container) (n : ℕ) (t : List Float) {b a : wrapping.Lent} {k : ℕ} (w : Broken c n t b k a) where
+  lines-back : take k (a .counts) ≡ w .lines
+  lines-back = wrapped-back (modeOf (c .wrap)) (limitOf c) (cleaned (c .«gap_main»)) (c .«minimum_lines») (outerSizes (itemsIn t 0 n)) w
+
   pub divides-of : Divides n (take k (a .counts))
-  divides-of = subst (Divides n) (sym lines-back) (subst (λ (m : ℕ). Divides m (w .lines)) (sizes-long t n) (lines-divide (limitOf c) (cleaned (c .«gap_main»)) (c .«minimum_lines») (outerSizes (itemsIn t 0 n)) (modeOf (c .wrap)) (w .lines) (w .lines-are)))
+  divides-of = subst (λ (m : ℕ). Divides m (take k (a .counts))) (sizes-long t n) (wrapped-divides (modeOf (c .wrap)) (limitOf c) (cleaned (c .«gap_main»)) (c .«minimum_lines») (outerSizes (itemsIn t 0 n)) w)
 
   pub lines-long : length (take k (a .counts)) ≡ k
   lines-long = ap length lines-back ∙ sym (w .number)
