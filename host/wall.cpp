@@ -135,7 +135,7 @@ bool draw(const std::vector<wall_panel> &wall, const std::string &path) {
         svg << "<text x='" << pad << "' y='" << y + 18 << "' font-size='16' text-anchor='start'>" << p.name << "</text>\n<text x='" << width - pad
             << "' y='" << y + 18 << "' text-anchor='end' fill='#ff6b6b'>" << p.note << "</text>\n";
         y += head;
-        const auto boxes = fratolivem::boxes(panel_container(), p.panel.last());
+        const auto boxes = fratolivem::boxes(p.panel.last());
         for (std::size_t i = 0; i < boxes.size(); i++) draw_gauge(svg, p.gauges[i], p.shown[i], boxes[i], pad, y);
         y += p.panel.last().inner_cross + pad;
     }

@@ -9,7 +9,8 @@
  * Calls keep no state and allocate nothing: several threads may call at once, each on lists of its own.
  *
  * Lengths are pixels, whole multiples of 1/64, of at most 262,144 px either way; -0.0 reads as 0, and no answer is -0.0.
- * Sizes and limits may be negative, gaps and bounds may not. The sum over the items of (|size| + gap) is at most 262,144 px.
+ * Sizes that are broken, limits, available space and margins may be negative; all other sizes, gaps and bounds may not. The sum over the items of
+ * (|size| + gap) is at most 262,144 px.
  *
  * On acceptance of a breaking call the first n cells of `counts` hold the lines' item counts, and 0 past the last line. Cells past the named
  * ones are unchanged in every call. A refusal changes no lent cell.
@@ -70,14 +71,16 @@ typedef struct {
 
 /* The limit that lines break against. Flags are 0 or 1: whether the main size that the host works with is definite (not found from the items),
  * whether the container's own style fixes its main size, and whether it is a row. A row of fixed width w: 1, 1, 1, DEFINITE, w, no bounds.
- * A bound whose flag is 0 is absent, and its number is not read. The bounds are those of the container's inner main size. If the known main size is not definite: max-content. Else, with a maximum: the available number, or
+ * A column as high as its items: 0, 0, 0, and any space is max-content. A bound whose flag is 0 is absent, and its number is not read. The bounds
+ * are those of the container's inner main size. If the known main size is not definite: max-content. Else, with a maximum: the available number, or
  * the maximum where there is none; lowered to the maximum if the main size is not definite; raised to the minimum. With no maximum the
  * available space itself, but max-content for a number in a column whose main size is not definite. */
 fratolivem_limit fratolivem_break_limit(uint32_t known_is_definite, uint32_t main_is_definite, uint32_t is_row,
                                         uint32_t available_kind, float available, uint32_t has_minimum, float minimum,
                                         uint32_t has_maximum, float maximum);
 
-/* A line takes at least one item, then the next while the line with it fits. Room: n counts. */
+/* A line takes at least one item, then the next while the line with it fits: while its size is at most the limit. Sizes are the items' outer main
+ * sizes (a flexible item's base held to its bounds, plus its margins); the call adds a gap between neighbours. Room: n counts. */
 fratolivem_answer fratolivem_greedy(uint32_t limit_kind, float limit, float gap, const float *sizes, size_t n,
                                     uint32_t *counts, size_t counts_len);
 
@@ -155,7 +158,8 @@ enum {
 typedef struct {
     float inner_main;
     float gap_main;
-    uint32_t limit_kind; /* and the limit that lines break against, of fratolivem_break_limit; a NOWRAP container is one line whatever it is */
+    uint32_t limit_kind; /* and the limit that lines break against, of fratolivem_break_limit; a NOWRAP container is one line
+                            whatever it is, but it is checked */
     float limit;
     uint32_t minimum_lines; /* of balanced breaking; held to 1..n, never refused */
     uint32_t direction;
@@ -208,7 +212,10 @@ typedef struct {
 } fratolivem_passed;
 
 /* The lists of `placed`, each of n cells, one after another: item i's main size is placed[FRATOLIVEM_MAIN_SIZE * n + i]. An offset is the step
- * before an item, walking its line from the physical start (from the last item in a reversed direction); margins are used margins. */
+ * before an item, walking its line from the physical start (from the last item in a reversed direction); margins are used margins. So an item's
+ * main position is the sum, over the walk up to it, of offsets, start margins, sizes and end margins; its cross position is its line's, plus its
+ * cross offset and its cross start margin; a line's is the sum of the line offsets and sizes over the walk, from the last line where wrapping is
+ * reversed. */
 enum {
     FRATOLIVEM_MAIN_SIZE = 0,
     FRATOLIVEM_MAIN_OFFSET = 1,
@@ -227,7 +234,8 @@ enum { FRATOLIVEM_LINE_SIZE = 0, FRATOLIVEM_LINE_OFFSET = 1, FRATOLIVEM_LINE_LIS
 /* Breaks, flexes and places n items. Room: 8n cells of placed and 2n of lines; n counts, rounds and free, by line: item counts, rounds of
  * flexing, and free space before flexing in whole sixty-fourths, negative where the line is overfull. Cells by line are 0 past the last line.
  * BALANCE and BALANCE_REVERSE also ask for n*n + 3n cells of work and 3n of sums (fratolivem_work_cells, fratolivem_sum_cells), which are 0
- * after acceptance; else these two may be NULL and are not touched. All other cells are unchanged. It takes some 160 KB of stack. */
+ * after acceptance; else these two may be NULL and are not touched. All other cells are unchanged. It takes 165,000 bytes of
+ * stack (give its thread 256 KB). Ranges and the sum of refusal 6 are those of fratolivem_flex_line. */
 fratolivem_passed fratolivem_pass(fratolivem_container container, const fratolivem_item *items, size_t n, float *placed,
                                   size_t placed_len, float *lines, size_t lines_len, uint32_t *counts, size_t counts_len,
                                   uint32_t *rounds, size_t rounds_len, int32_t *free, size_t free_len, uint32_t *work,

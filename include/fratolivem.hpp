@@ -19,7 +19,9 @@ class span {
 public:
     constexpr span() = default;
     constexpr span(T *data, std::size_t size) : data_(data), size_(size) {}
-    template <class C, class = std::enable_if_t<std::is_convertible_v<decltype(std::declval<C &>().data()), T *>>>
+    // Cells of a derived struct that has grown are no cells of T: a list is lent as it lies.
+    template <class C, class = std::enable_if_t<std::is_convertible_v<decltype(std::declval<C &>().data()), T *> &&
+                                                sizeof(*std::declval<C &>().data()) == sizeof(T)>>
     constexpr span(C &&cells) : data_(cells.data()), size_(cells.size()) {}
     constexpr T *data() const { return data_; }
     constexpr std::size_t size() const { return size_; }
@@ -46,7 +48,7 @@ inline const char *words(refusal r) {
     case refusal::too_little_room: return "lists of unequal length, or too little lent room";
     case refusal::not_finite: return "a number is NaN or infinite";
     case refusal::off_grid: return "a length is no whole multiple of 1/64 px";
-    case refusal::out_of_range: return "a number is out of range";
+    case refusal::out_of_range: return "a number is out of range, or a code names nothing";
     case refusal::sum_too_large: return "the sizes and gaps sum to more than 262,144 px";
     }
     return "no refusal of this library";
@@ -171,12 +173,13 @@ struct placed_line {
     float cross_size, cross_offset;
 };
 
-// What an accepted pass answers.
+// What an accepted pass answers, and the direction and wrap mode that it was made for.
 struct frame {
     std::vector<placed_item> items;
     std::vector<placed_line> lines;
     float inner_cross = 0.0f;
     std::uint32_t rounds = 0;
+    std::uint32_t direction = FRATOLIVEM_ROW, wrap = FRATOLIVEM_NOWRAP;
 };
 
 struct [[nodiscard]] passed : fratolivem_passed {
@@ -199,7 +202,7 @@ public:
         const passed p{fratolivem_pass(c, items.data(), n, placed_.data(), placed_.size(), lines_.data(), lines_.size(),
                                        counts_.data(), counts_.size(), rounds_.data(), rounds_.size(), free_.data(),
                                        free_.size(), work_.data(), work_.size(), sums_.data(), sums_.size())};
-        if (p) keep(p, n);
+        if (p) keep(c, p, n);
         return p;
     }
     // The frame of the last accepted call; empty before the first.
@@ -210,7 +213,7 @@ private:
     static void grow(std::vector<T> &cells, std::size_t n) {
         if (cells.size() < n) cells.resize(n);
     }
-    void keep(const passed &p, std::size_t n) {
+    void keep(const fratolivem_container &c, const passed &p, std::size_t n) {
         const auto of = [&](std::size_t list, std::size_t i) { return placed_[list * n + i]; };
         frame_.items.resize(n);
         for (std::size_t i = 0; i < n; i++)
@@ -220,6 +223,7 @@ private:
             frame_.lines[j] = {counts_[j], free_[j], rounds_[j], lines_[j], lines_[n + j]};
         frame_.inner_cross = p.inner_cross;
         frame_.rounds = p.rounds;
+        frame_.direction = c.direction, frame_.wrap = c.wrap;
     }
 
     frame frame_;
@@ -235,10 +239,10 @@ struct box {
 };
 
 // The boxes of a frame: adds up the steps, the sizes and the margins, from the last line where wrapping is reversed, and from a line's last item
-// where the direction is. `c` is the container that the frame was laid out for.
-inline std::vector<box> boxes(const fratolivem_container &c, const frame &f) {
-    const bool items_reversed = c.direction == FRATOLIVEM_ROW_REVERSE || c.direction == FRATOLIVEM_COLUMN_REVERSE;
-    const bool lines_reversed = c.wrap == FRATOLIVEM_WRAP_REVERSE || c.wrap == FRATOLIVEM_BALANCE_REVERSE;
+// where the direction is.
+inline std::vector<box> boxes(const frame &f) {
+    const bool items_reversed = f.direction == FRATOLIVEM_ROW_REVERSE || f.direction == FRATOLIVEM_COLUMN_REVERSE;
+    const bool lines_reversed = f.wrap == FRATOLIVEM_WRAP_REVERSE || f.wrap == FRATOLIVEM_BALANCE_REVERSE;
     std::vector<std::size_t> first(f.lines.size());
     for (std::size_t j = 1; j < f.lines.size(); j++) first[j] = first[j - 1] + f.lines[j - 1].count;
     std::vector<box> out(f.items.size());

@@ -196,16 +196,18 @@ void panels() {
     // Two lines of 30 and 10, stretched by (90 - 45) / 2 each.
     expect(good && frame.lines.size() == 2 && frame.lines[0].count == 2 && frame.inner_cross == 90, "a panel's lines", none, 3);
     expect(frame.lines[0].cross_size == 52.5f && frame.lines[1].cross_size == 32.5f && frame.lines[1].cross_offset == 5, "a panel's stretch", none, 3);
-    const auto at = fratolivem::boxes(c, frame);
+    const auto at = fratolivem::boxes(frame);
     expect(at[1].main == 50 && at[1].cross == 0 && at[2].main == 0 && at[2].cross == 57.5f && at[0].cross_size == 52.5f, "boxes", none, 3);
     list[1].main_base = NAN;
+    c.direction = FRATOLIVEM_ROW_REVERSE;
     const auto refused = panel.lay(c, list);
+    const auto stays = fratolivem::boxes(panel.last());
+    expect(stays[1].main == 50 && stays[2].cross == 57.5f, "the boxes of the last good frame", none, 3);
     expect(!refused && refused.text() == "a number is NaN or infinite, at item 1" && panel.last().lines.size() == 2, "a refused frame", none, 3);
     list[1].main_base = 50;
-    c.direction = FRATOLIVEM_ROW_REVERSE;
     c.wrap = FRATOLIVEM_WRAP_REVERSE;
     const auto back = panel.lay(c, list);
-    const auto from = fratolivem::boxes(c, panel.last());
+    const auto from = fratolivem::boxes(panel.last());
     expect(back && from[1].main == 0 && from[0].main == 60 && from[2].main == 40 && from[2].cross == 0 && from[0].cross == 37.5f, "boxes reversed", none, 3);
     const std::vector<fratolivem::item> many(1025, list[0]);
     const auto over = panel.lay(c, many);
