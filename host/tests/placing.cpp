@@ -404,7 +404,7 @@ void cpp_header() {
     const auto q = fratolivem::place_across(60, true, short_of_one, across_sizes, across_start, across_end, across_offsets);
     expect(!q && q.why() == fratolivem::refusal::too_little_room && across_sizes[0] == 5, "a refusal of the C++ place_across", size);
     const auto t = fratolivem::line_size(fratolivem::cross(7, {}, 0), columns);
-    expect(!t && t.text() == "a number is out of range, at the container", "words of a code that names nothing", size);
+    expect(!t && t.text() == "a number is out of range, or a code names nothing, at the container", "words of a code that names nothing", size);
     calls += 7;
 }
 
