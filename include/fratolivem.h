@@ -1,4 +1,4 @@
-/* Fratolivem: breaking items into lines, flexing and placing them, for C99 and C++17. C++ hosts may take fratolivem.hpp, which stands over this file.
+/* Fratolivem: the line work of CSS flexbox (breaking, flexing, placing), for C99 and C++17. C++ hosts may take fratolivem.hpp, which stands over this file.
  *
  * Any bits may be handed in: a call answers or refuses, and never goes wrong over a number. What a host must see to:
  *  - a list is a pointer and a number of cells; a list of 0 cells may be NULL;
@@ -127,9 +127,50 @@ static inline fratolivem_answer fratolivem_balanced(uint32_t limit_kind, float l
                                      cur_len);
 }
 
-/* ---- The whole pass: lines, flexing, main axis and cross axis of one container ---- */
+/* ---- flexing: CSS-FLEX 9.7, the free space of a line shared out over its items */
 
-enum { FRATOLIVEM_ROW = 0, FRATOLIVEM_ROW_REVERSE = 1, FRATOLIVEM_COLUMN = 2, FRATOLIVEM_COLUMN_REVERSE = 3 };
+typedef struct {
+    uint32_t number;
+    uint32_t where;
+    uint32_t place;
+    int32_t free;    /* before flexing, in sixty-fourths of a pixel: below 0 where the line is overfull; 0 on refusal */
+    uint32_t rounds; /* of the standard's loop, at most n; 0 on refusal */
+} fratolivem_flexed;
+
+/* Flexes one line, all in f32, each operation rounded once. `inner` is the container's inner main size and `gap` that between two items. The
+ * items are eleven lists of n cells each (of unequal length: refusal 2); what item i is stands in cell i of each:
+ *   base          its flex base size, at least 0, padding and border counted in. The call does not raise it: a host that follows the standard
+ *                 hands over a base of at least padding plus border.
+ *   minimum       its minimum main size, at least 0
+ *   maximum       its maximum main size, at least 0; read only where has_maximum is 1
+ *   has_maximum   0 or 1
+ *   edges         its padding plus border along the main axis, at least 0: no target is smaller
+ *   grow, shrink  its flex factors: any float of 0 to 1,024, on the grid or off it
+ *   start, end    its margins, of at most 131,072 px either way; read only where they are not auto
+ *   auto_start, auto_end   0, or 1 where the margin is auto, which counts as 0 here
+ * Room: n targets. On acceptance the first n cells hold the items' main sizes, padding and border counted in, which need not be on the grid.
+ * A code that is neither 0 nor 1 is refusal 5 at its item; a number that is not read is not checked. Refusal 6 goes by the items' outer sizes
+ * before flexing: each base held to its bounds, and its margins. */
+fratolivem_flexed fratolivem_flex_line(float inner, float gap, const float *base, size_t base_len, const float *minimum, size_t minimum_len,
+                                       const float *maximum, size_t maximum_len, const uint32_t *has_maximum, size_t has_maximum_len,
+                                       const float *edges, size_t edges_len, const float *grow, size_t grow_len, const float *shrink,
+                                       size_t shrink_len, const float *start, size_t start_len, const float *end, size_t end_len,
+                                       const uint32_t *auto_start, size_t auto_start_len, const uint32_t *auto_end, size_t auto_end_len,
+                                       float *targets, size_t targets_len);
+
+/* Flexes many lines, each by its own items alone: line j has the next counts[j] of the n items. The counts of a breaking call are such, cut to
+ * its lines. Counts of which one is 0, or that do not sum to n, are refusal 5 at the container; more than 1,024 are refusal 1.
+ * Room: n cells each of targets, free and rounds. On acceptance the first n targets are the items' main sizes, as above; free and rounds hold
+ * what the call above answers, by line, and 0 past the last line up to n; the answer's rounds are their sum. */
+fratolivem_answer fratolivem_flex_lines(float inner, float gap, const uint32_t *counts, size_t counts_len, const float *base, size_t base_len,
+                                        const float *minimum, size_t minimum_len, const float *maximum, size_t maximum_len,
+                                        const uint32_t *has_maximum, size_t has_maximum_len, const float *edges, size_t edges_len,
+                                        const float *grow, size_t grow_len, const float *shrink, size_t shrink_len, const float *start,
+                                        size_t start_len, const float *end, size_t end_len, const uint32_t *auto_start,
+                                        size_t auto_start_len, const uint32_t *auto_end, size_t auto_end_len, float *targets,
+                                        size_t targets_len, int32_t *free, size_t free_len, uint32_t *rounds, size_t rounds_len);
+
+/* ---- placing: the main axis of one line, and the cross axis of a container and of one line */
 
 /* BALANCE is wrap with balanced breaking. */
 enum {
@@ -153,6 +194,78 @@ enum {
     FRATOLIVEM_SPACE_AROUND = 12,
     FRATOLIVEM_SPACE_EVENLY = 13
 };
+
+/* Places one line's items along it. `inner` is the container's inner main size and `gap` that between two items; `justify_content` is a keyword
+ * above, and `reversed` 1 where the direction is (ROW_REVERSE, COLUMN_REVERSE), else 0. The items are five lists of n cells each:
+ *   targets       their main sizes, as flexing leaves them: any finite number of at most 16,777,216 px either way, on the grid or off it
+ *   start, end, auto_start, auto_end   their margins, as in flexing
+ * Room: n cells each of offsets, used_start and used_end. On acceptance the used margins are the items' own, auto ones with their equal part of
+ * the free space, or 0 where none is free; an offset is the step before an item and its margins, walking the line from the physical start, from
+ * the last item where reversed: the gap, and what `justify_content` adds. The answer has no lines and no rounds; it is never refusal 6. */
+fratolivem_answer fratolivem_place_main(float inner, float gap, uint32_t justify_content, uint32_t reversed, const float *targets,
+                                        size_t targets_len, const float *start, size_t start_len, const float *end, size_t end_len,
+                                        const uint32_t *auto_start, size_t auto_start_len, const uint32_t *auto_end, size_t auto_end_len,
+                                        float *offsets, size_t offsets_len, float *used_start, size_t used_start_len, float *used_end,
+                                        size_t used_end_len);
+
+/* A container's cross axis by value. A number beside a flag `has_..` of 0 is absent and not read. */
+typedef struct {
+    float inner; /* the inner cross size; it is held to the bounds */
+    uint32_t has_inner;
+    float minimum; /* bounds on the inner cross size: the minimum wins */
+    uint32_t has_minimum;
+    float maximum;
+    uint32_t has_maximum;
+    float gap; /* between two lines */
+    uint32_t wrap;
+} fratolivem_cross;
+
+typedef struct {
+    uint32_t number;
+    uint32_t where;
+    uint32_t place;
+    float size; /* 0.0 on refusal */
+} fratolivem_sized;
+
+/* The cross size of one line: the inner size of a NOWRAP container that has one, else the largest of its items' outer cross sizes and 0, held to
+ * the container's bounds under NOWRAP. The container's gap is not read. The items are nine lists of n cells each:
+ *   measured      its cross size as the host measured it, at least 0, padding and border counted in
+ *   minimum, maximum, has_maximum, edges   what bounds it, as in flexing, here along the cross axis
+ *   start, end, auto_start, auto_end       its cross margins, alike; auto ones count as 0
+ * Nothing is lent. It is never refusal 6. */
+fratolivem_sized fratolivem_line_size(fratolivem_cross container, const float *measured, size_t measured_len, const float *minimum,
+                                      size_t minimum_len, const float *maximum, size_t maximum_len, const uint32_t *has_maximum,
+                                      size_t has_maximum_len, const float *edges, size_t edges_len, const float *start, size_t start_len,
+                                      const float *end, size_t end_len, const uint32_t *auto_start, size_t auto_start_len,
+                                      const uint32_t *auto_end, size_t auto_end_len);
+
+/* Places a container's n lines along the cross axis and answers its inner cross size: the given one, else lines plus gaps, held to the bounds.
+ * `lines` are cross sizes as the call above answers them: any finite number of at most 16,777,216 px either way. Under STRETCH, lines that
+ * with their gaps fall short of the inner size, or of the minimum where there is none, share the rest equally.
+ * Room: n cells each of sizes and offsets. On acceptance they hold the lines' sizes after that, and the step before each line, walking from the
+ * last line under WRAP_REVERSE and BALANCE_REVERSE. The place of a refusal is a line. It is never refusal 6. */
+fratolivem_sized fratolivem_place_lines(fratolivem_cross container, uint32_t align_content, const float *lines, size_t lines_len, float *sizes,
+                                        size_t sizes_len, float *offsets, size_t offsets_len);
+
+/* Places one line's items across it. `line` is its cross size, as the call above leaves it and within the same bounds; `reversed` is 1 under
+ * WRAP_REVERSE and BALANCE_REVERSE, else 0. The items are the nine lists of fratolivem_line_size, and two more:
+ *   align_self    a keyword above, of START to STRETCH
+ *   auto_size     1 where the cross size is auto, so that STRETCH fills the line, else 0
+ * Room: n cells each of sizes, used_start, used_end and offsets. On acceptance they hold the items' cross sizes, their margins, of which auto
+ * ones take all the free space, negative too, and their offsets, each from the line's start to the item's start margin. The answer has no lines
+ * and no rounds; it is never refusal 6. */
+fratolivem_answer fratolivem_place_across(float line, uint32_t reversed, const float *measured, size_t measured_len, const float *minimum,
+                                          size_t minimum_len, const float *maximum, size_t maximum_len, const uint32_t *has_maximum,
+                                          size_t has_maximum_len, const float *edges, size_t edges_len, const float *start,
+                                          size_t start_len, const float *end, size_t end_len, const uint32_t *auto_start,
+                                          size_t auto_start_len, const uint32_t *auto_end, size_t auto_end_len,
+                                          const uint32_t *align_self, size_t align_self_len, const uint32_t *auto_size,
+                                          size_t auto_size_len, float *sizes, size_t sizes_len, float *used_start, size_t used_start_len,
+                                          float *used_end, size_t used_end_len, float *offsets, size_t offsets_len);
+
+/* ---- The whole pass: lines, flexing, main axis and cross axis of one container ---- */
+
+enum { FRATOLIVEM_ROW = 0, FRATOLIVEM_ROW_REVERSE = 1, FRATOLIVEM_COLUMN = 2, FRATOLIVEM_COLUMN_REVERSE = 3 };
 
 /* A container by value. A number beside a flag `has_..` of 0 is absent and not read. */
 typedef struct {
@@ -240,119 +353,6 @@ fratolivem_passed fratolivem_pass(fratolivem_container container, const fratoliv
                                   size_t placed_len, float *lines, size_t lines_len, uint32_t *counts, size_t counts_len,
                                   uint32_t *rounds, size_t rounds_len, int32_t *free, size_t free_len, uint32_t *work,
                                   size_t work_len, double *sums, size_t sums_len);
-
-/* ---- flexing: CSS-FLEX 9.7, the free space of a line shared out over its items */
-
-typedef struct {
-    uint32_t number;
-    uint32_t where;
-    uint32_t place;
-    int32_t free;    /* before flexing, in sixty-fourths of a pixel: below 0 where the line is overfull; 0 on refusal */
-    uint32_t rounds; /* of the standard's loop, at most n; 0 on refusal */
-} fratolivem_flexed;
-
-/* Flexes one line, all in f32, each operation rounded once. `inner` is the container's inner main size and `gap` that between two items. The
- * items are eleven lists of n cells each (of unequal length: refusal 2); what item i is stands in cell i of each:
- *   base          its flex base size, at least 0, padding and border counted in. The call does not raise it: a host that follows the standard
- *                 hands over a base of at least padding plus border.
- *   minimum       its minimum main size, at least 0
- *   maximum       its maximum main size, at least 0; read only where has_maximum is 1
- *   has_maximum   0 or 1
- *   edges         its padding plus border along the main axis, at least 0: no target is smaller
- *   grow, shrink  its flex factors: any float of 0 to 1,024, on the grid or off it
- *   start, end    its margins, of at most 131,072 px either way; read only where they are not auto
- *   auto_start, auto_end   0, or 1 where the margin is auto, which counts as 0 here
- * Room: n targets. On acceptance the first n cells hold the items' main sizes, padding and border counted in, which need not be on the grid.
- * A code that is neither 0 nor 1 is refusal 5 at its item; a number that is not read is not checked. Refusal 6 goes by the items' outer sizes
- * before flexing: each base held to its bounds, and its margins. */
-fratolivem_flexed fratolivem_flex_line(float inner, float gap, const float *base, size_t base_len, const float *minimum, size_t minimum_len,
-                                       const float *maximum, size_t maximum_len, const uint32_t *has_maximum, size_t has_maximum_len,
-                                       const float *edges, size_t edges_len, const float *grow, size_t grow_len, const float *shrink,
-                                       size_t shrink_len, const float *start, size_t start_len, const float *end, size_t end_len,
-                                       const uint32_t *auto_start, size_t auto_start_len, const uint32_t *auto_end, size_t auto_end_len,
-                                       float *targets, size_t targets_len);
-
-/* Flexes many lines, each by its own items alone: line j has the next counts[j] of the n items. The counts of a breaking call are such, cut to
- * its lines. Counts of which one is 0, or that do not sum to n, are refusal 5 at the container; more than 1,024 are refusal 1.
- * Room: n cells each of targets, free and rounds. On acceptance the first n targets are the items' main sizes, as above; free and rounds hold
- * what the call above answers, by line, and 0 past the last line up to n; the answer's rounds are their sum. */
-fratolivem_answer fratolivem_flex_lines(float inner, float gap, const uint32_t *counts, size_t counts_len, const float *base, size_t base_len,
-                                        const float *minimum, size_t minimum_len, const float *maximum, size_t maximum_len,
-                                        const uint32_t *has_maximum, size_t has_maximum_len, const float *edges, size_t edges_len,
-                                        const float *grow, size_t grow_len, const float *shrink, size_t shrink_len, const float *start,
-                                        size_t start_len, const float *end, size_t end_len, const uint32_t *auto_start,
-                                        size_t auto_start_len, const uint32_t *auto_end, size_t auto_end_len, float *targets,
-                                        size_t targets_len, int32_t *free, size_t free_len, uint32_t *rounds, size_t rounds_len);
-
-/* ---- placing: the main axis of one line, and the cross axis of a container and of one line */
-
-/* Places one line's items along it. `inner` is the container's inner main size and `gap` that between two items; `justify_content` is a keyword
- * above, and `reversed` 1 where the direction is (ROW_REVERSE, COLUMN_REVERSE), else 0. The items are five lists of n cells each:
- *   targets       their main sizes, as flexing leaves them: any finite number of at most 16,777,216 px either way, on the grid or off it
- *   start, end, auto_start, auto_end   their margins, as in flexing
- * Room: n cells each of offsets, used_start and used_end. On acceptance the used margins are the items' own, auto ones with their equal part of
- * the free space, or 0 where none is free; an offset is the step before an item and its margins, walking the line from the physical start, from
- * the last item where reversed: the gap, and what `justify_content` adds. The answer has no lines and no rounds; it is never refusal 6. */
-fratolivem_answer fratolivem_place_main(float inner, float gap, uint32_t justify_content, uint32_t reversed, const float *targets,
-                                        size_t targets_len, const float *start, size_t start_len, const float *end, size_t end_len,
-                                        const uint32_t *auto_start, size_t auto_start_len, const uint32_t *auto_end, size_t auto_end_len,
-                                        float *offsets, size_t offsets_len, float *used_start, size_t used_start_len, float *used_end,
-                                        size_t used_end_len);
-
-/* A container's cross axis by value. A number beside a flag `has_..` of 0 is absent and not read. */
-typedef struct {
-    float inner; /* the inner cross size; it is held to the bounds */
-    uint32_t has_inner;
-    float minimum; /* bounds on the inner cross size: the minimum wins */
-    uint32_t has_minimum;
-    float maximum;
-    uint32_t has_maximum;
-    float gap; /* between two lines */
-    uint32_t wrap;
-} fratolivem_cross;
-
-typedef struct {
-    uint32_t number;
-    uint32_t where;
-    uint32_t place;
-    float size; /* 0.0 on refusal */
-} fratolivem_sized;
-
-/* The cross size of one line: the inner size of a NOWRAP container that has one, else the largest of its items' outer cross sizes and 0, held to
- * the container's bounds under NOWRAP. The container's gap is not read. The items are nine lists of n cells each:
- *   measured      its cross size as the host measured it, at least 0, padding and border counted in
- *   minimum, maximum, has_maximum, edges   what bounds it, as in flexing, here along the cross axis
- *   start, end, auto_start, auto_end       its cross margins, alike; auto ones count as 0
- * Nothing is lent. It is never refusal 6. */
-fratolivem_sized fratolivem_line_size(fratolivem_cross container, const float *measured, size_t measured_len, const float *minimum,
-                                      size_t minimum_len, const float *maximum, size_t maximum_len, const uint32_t *has_maximum,
-                                      size_t has_maximum_len, const float *edges, size_t edges_len, const float *start, size_t start_len,
-                                      const float *end, size_t end_len, const uint32_t *auto_start, size_t auto_start_len,
-                                      const uint32_t *auto_end, size_t auto_end_len);
-
-/* Places a container's n lines along the cross axis and answers its inner cross size: the given one, else lines plus gaps, held to the bounds.
- * `lines` are cross sizes as the call above answers them: any finite number of at most 16,777,216 px either way. Under STRETCH, lines that
- * with their gaps fall short of the inner size, or of the minimum where there is none, share the rest equally.
- * Room: n cells each of sizes and offsets. On acceptance they hold the lines' sizes after that, and the step before each line, walking from the
- * last line under WRAP_REVERSE and BALANCE_REVERSE. The place of a refusal is a line. It is never refusal 6. */
-fratolivem_sized fratolivem_place_lines(fratolivem_cross container, uint32_t align_content, const float *lines, size_t lines_len, float *sizes,
-                                        size_t sizes_len, float *offsets, size_t offsets_len);
-
-/* Places one line's items across it. `line` is its cross size, as the call above leaves it and within the same bounds; `reversed` is 1 under
- * WRAP_REVERSE and BALANCE_REVERSE, else 0. The items are the nine lists of fratolivem_line_size, and two more:
- *   align_self    a keyword above, of START to STRETCH
- *   auto_size     1 where the cross size is auto, so that STRETCH fills the line, else 0
- * Room: n cells each of sizes, used_start, used_end and offsets. On acceptance they hold the items' cross sizes, their margins, of which auto
- * ones take all the free space, negative too, and their offsets, each from the line's start to the item's start margin. The answer has no lines
- * and no rounds; it is never refusal 6. */
-fratolivem_answer fratolivem_place_across(float line, uint32_t reversed, const float *measured, size_t measured_len, const float *minimum,
-                                          size_t minimum_len, const float *maximum, size_t maximum_len, const uint32_t *has_maximum,
-                                          size_t has_maximum_len, const float *edges, size_t edges_len, const float *start,
-                                          size_t start_len, const float *end, size_t end_len, const uint32_t *auto_start,
-                                          size_t auto_start_len, const uint32_t *auto_end, size_t auto_end_len,
-                                          const uint32_t *align_self, size_t align_self_len, const uint32_t *auto_size,
-                                          size_t auto_size_len, float *sizes, size_t sizes_len, float *used_start, size_t used_start_len,
-                                          float *used_end, size_t used_end_len, float *offsets, size_t offsets_len);
 
 #ifdef __cplusplus
 }
