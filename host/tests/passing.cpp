@@ -1,13 +1,12 @@
 // Boundary tests of the whole pass: made on lent lists with dirty cells, and compared with the model: answer, place and every cell.
 // passing [SEED] [LISTS]
-#include <array>
 #include <chrono>
 #include <cinttypes>
 #include <cmath>
 #include <string>
 
+#include "cells.hpp"
 #include "fratolivem.hpp"
-#include "lent.hpp"
 #include "pass_model.hpp"
 
 namespace {
@@ -27,14 +26,6 @@ void expect(bool ok, const char *what, const Container &c, std::size_t n) {
                     double(c.gap_main), c.limit_kind, double(c.limit), c.minimum_lines, c.direction, c.wrap, c.justify_content, c.align_content, n);
 }
 
-float of_bits(uint32_t bits) {
-    float x;
-    std::memcpy(&x, &bits, sizeof x);
-    return x;
-}
-
-Stand any_stand() { return std::array{Stand::between_canaries, Stand::before_a_page, Stand::after_a_page}[dirt() % 3]; }
-
 constexpr std::size_t most = 1100;
 // The items as cells of 4 bytes, which all of theirs are.
 constexpr std::size_t cells = sizeof(Item) / 4;
@@ -43,11 +34,6 @@ Lent<float> placed(8 * most), lines(2 * most);
 Lent<uint32_t> counts(most), rounds(most), work(most *most + 3 * most);
 Lent<int32_t> free_space(most);
 Lent<double> sums(3 * most);
-
-template <class T>
-bool holds(const Lent<T> &list, const std::vector<T> &cells) {
-    return list.kept_from(cells.size()) && (cells.empty() || !std::memcmp(list.data(), cells.data(), cells.size() * sizeof(T)));
-}
 
 void try_pass(const Container &c, const std::vector<Item> &list, const PassRoom &room) {
     const std::size_t n = list.size();
