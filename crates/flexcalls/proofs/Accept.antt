@@ -27,7 +27,7 @@ use Rattle.flexcalls.specs.declared.FlexAnswer.{FlexAnswer}
 use Rattle.flexing.specs.Flex.{nought, outerSum}
 use Rattle.flexing.specs.Items.{Lists, count, itemAt, itemsOf}
 use Rattle.flexcalls.specs.Call.{shapeOf, plainAt, inputOf, lineVerdict, Answered}
-use Rattle.flexing.specs.Cells.{Margin, Measured, Even}
+use Rattle.flexing.specs.Accepted.{Margin, Measured, Even}
 use Rattle.flexcalls.specs.Parts.{Checked}
 
 -- ---- checks 1 and 2

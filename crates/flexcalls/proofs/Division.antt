@@ -27,12 +27,13 @@ use Rattle.flexing.specs.declared.Item.{Item}
 use Rattle.flexing.specs.Flex.{outerSum}
 use Rattle.flexing.specs.Items.{Lists, count, itemAt, itemsOf}
 use Rattle.flexcalls.specs.Call.{inputOf, shapeOf}
-use Rattle.flexing.specs.Cells.{itemIn, itemsIn, Held, Even}
+use Rattle.flexing.specs.Accepted.{Even}
+use Rattle.rounds.specs.Cells.{itemIn, itemsIn, Held}
 use Rattle.flexcalls.specs.Lines.{lineStart, linesShape, positive, divides, division, linesInput, roomOf, linesVerdict, FlexedLines, AnsweredLines}
 use Rattle.flexcalls.specs.Parts.{Divided, CheckedLines}
-use Rattle.flexing.proofs.Each.{each-ext}
+use Rattle.rounds.proofs.Each.{each-ext}
 use Rattle.flexcalls.proofs.Accept.{both, even-of, refused-then, passed-then, inner-length, gap-length, measured-of}
-use Rattle.flexing.proofs.Columns.{tabled-of, items-are}
+use Rattle.rounds.proofs.Columns.{tabled-of, items-are}
 use Rattle.flexcalls.proofs.Going.{ends-before, flexed-as}
 
 -- ---- the loop over the counts

@@ -16,11 +16,12 @@ use Rattle.refusal.proofs.Sweep.{sum-none, sum-more}
 use Rattle.flexing.specs.declared.Item.{Item}
 use Rattle.flexing.specs.Flex.{outerSum, Flexed, targets as targetsOf}
 use Rattle.flexing.specs.Items.{each}
-use Rattle.flexing.specs.Cells.{itemIn, itemsIn, Accepted}
+use Rattle.flexing.specs.Accepted.{Accepted}
+use Rattle.rounds.specs.Cells.{itemIn, itemsIn}
 use Rattle.flexcalls.specs.Lines.{lineStart, lineItems, lineCells, Beyond, FlexedLines}
 use Rattle.flexcalls.specs.Parts.{Divided, Lined, Ahead, Flowed, Cleared}
-use Rattle.flexing.proofs.Each.{length-each, each-ext, outer-snoc}
-use Rattle.flexing.proofs.Columns.{every-each}
+use Rattle.rounds.proofs.Each.{length-each, each-ext, outer-snoc}
+use Rattle.rounds.proofs.Columns.{every-each}
 
 -- ---- the ranges
 

@@ -25,7 +25,7 @@ use Rattle.flexing.specs.declared.Item.{Item}
 use Rattle.flexing.specs.Flex.{outerSum}
 use Rattle.flexing.specs.Items.{Lists, count, each, itemAt, itemsOf}
 use Rattle.flexcalls.specs.Lines.{lineStart, lineItems, lineCells, linesShape, linesInput, roomOf, linesVerdict, Beyond, FlexedByLine}
-use Rattle.flexing.proofs.Each.{each-ext}
+use Rattle.rounds.proofs.Each.{each-ext}
 use Rattle.flexing.proofs.Determined.{same-answer}
 use Rattle.flexcalls.proofs.Determined.{passes, whyOf}
 use Rattle.flexcalls.proofs.Going.{sum-ext, flexed-as}

@@ -14,7 +14,7 @@ use Rattle.refusal.proofs.Order.{least-ext}
 use Rattle.refusal.proofs.Checks.{least-both, least-append, least-one}
 use Rattle.flexing.specs.Items.{Lists, count}
 use Rattle.flexcalls.specs.Call.{plainAt, inputOf}
-use Rattle.flexing.specs.Cells.{Even}
+use Rattle.flexing.specs.Accepted.{Even}
 
 -- the least mark of the numbers that each item has in f, and of those in a list of numbers of each
 abbrev pub single : (ℕ → Number) → ℕ → ℕ

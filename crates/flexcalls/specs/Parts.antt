@@ -11,7 +11,8 @@ use Rattle.refusal.specs.Marks.{sumUpTo, Sound}
 use Rattle.flexing.specs.declared.Item.{Item}
 use Rattle.flexing.specs.Flex.{Flexed, outerSum}
 use Rattle.flexing.specs.Items.{Lists, count}
-use Rattle.flexing.specs.Cells.{itemsIn, Tabled, Even}
+use Rattle.flexing.specs.Accepted.{Even}
+use Rattle.rounds.specs.Cells.{itemsIn, Tabled}
 use Rattle.flexcalls.specs.Call.{inputOf}
 use Rattle.flexcalls.specs.Lines.{lineStart, lineItems, lineCells}
 

@@ -5,13 +5,13 @@ ghost use Rattle.refusal.specs.Domain.{summed};
 ghost use Rattle.flexing.specs.Flex.{outerSum};
 ghost use lib.ListN.{length, set};
 ghost use lib.IntN.{pos};
-ghost use Rattle.flexing.specs.Cells.{itemIn, itemsIn};
+ghost use Rattle.rounds.specs.Cells.{itemIn, itemsIn};
 ghost use Rattle.flexcalls.specs.Lines.{FlexedLines, AnsweredLines};
 ghost use Rattle.flexcalls.specs.Parts.{Divided, Lined, Flowed, Cleared};
-use flexing::flex::flex_items;
-use flexing::sum::outer_sum;
 use refusal::Answer;
 use refusal::Verdict;
+use rounds::flex::flex_items;
+use rounds::sum::outer_sum;
 
 fn store_free(free: &mut [i32], j: usize, x: i32)
     requires { ⌜ j < length (now free) ⌝ }

@@ -8,7 +8,7 @@ ghost use Rattle.refusal.specs.Domain.{shape, then};
 ghost use Rattle.refusal.specs.Marks.{leastOf, leastUpTo, leastMark};
 ghost use Rattle.refusal.specs.Shapes.{shapeOf};
 ghost use Rattle.flexing.specs.Items.{lists};
-ghost use Rattle.flexing.specs.Cells.{Even};
+ghost use Rattle.flexing.specs.Accepted.{Even};
 ghost use Rattle.flexcalls.specs.Call.{plainAt, inputOf};
 use refusal::Kind;
 use refusal::Mark;

@@ -1,4 +1,4 @@
-// The calls that flex, on any bits: checks 1 to 6, and then the parts of crate `flexing` (document 01, "Flexible lengths").
+// The calls that flex, on any bits: checks 1 to 6, and then the parts of crate `rounds` (document 01, "Flexible lengths").
 ghost use mathlib.Core.Path.{_≡_};
 ghost use Prim.Native.Nat.{_≤_};
 ghost use lib.ListN.{length};
@@ -7,13 +7,13 @@ ghost use Rattle.refusal.specs.Domain.{summed, then};
 ghost use Rattle.refusal.specs.Marks.{leastMark, judged};
 ghost use Rattle.flexing.specs.Flex.{outerSum};
 ghost use Rattle.flexing.specs.Items.{lists, itemsOf};
-ghost use Rattle.flexing.specs.Cells.{itemsIn, Tabled};
+ghost use Rattle.rounds.specs.Cells.{itemsIn, Tabled};
 ghost use Rattle.flexcalls.specs.Call.{inputOf, shapeOf, Answered, FlexedLine};
 ghost use Rattle.flexcalls.specs.Parts.{Checked};
-use flexing::flex::flex_items;
-use flexing::sum::outer_sum;
-use flexing::table::read_items;
 use refusal::Verdict;
+use rounds::flex::flex_items;
+use rounds::sum::outer_sum;
+use rounds::table::read_items;
 
 pub mod by_line;
 pub mod checks;

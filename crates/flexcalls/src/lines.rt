@@ -9,12 +9,12 @@ ghost use Rattle.flexing.specs.Flex.{outerSum};
 ghost use Rattle.flexing.specs.Items.{lists, count, itemAt, itemsOf};
 ghost use Rattle.flexcalls.specs.Lines.{divides, division, linesShape, linesInput, AnsweredLines, FlexedByLine};
 ghost use Rattle.flexcalls.specs.Parts.{CheckedLines};
-use flexing::table::read_items;
 use refusal::Answer;
 use refusal::Mark;
 use refusal::Verdict;
 use refusal::shapes::has_room;
 use refusal::shapes::is_alike;
+use rounds::table::read_items;
 
 fn shorter(a: usize, b: usize) -> usize
     ensures { λ r. ⌜ r ≡ min a b ⌝ }

@@ -1,11 +1,6 @@
-pub mod Each
 pub mod Signs
 pub mod Falls
-pub mod Round
 pub mod Units
-pub mod Loop
-pub mod Finish
 pub mod Determined
-pub mod Columns
 pub mod Examples
 pub mod Sign

@@ -21,7 +21,7 @@ use Rattle.grid.proofs.Sums.{abs-add}
 use Rattle.grid.proofs.Convert.{ofInt-at, back32}
 use Rattle.flexing.specs.declared.Item.{Item}
 use Rattle.flexing.specs.Flex.{freeBefore, sumFrom, total, clamp, hypothetical, outer, outerUnits, sumUnits, outerSum, gaps, raised, lowered, nought, _⊕_}
-use Rattle.flexing.specs.Cells.{Measured, Every, Accepted}
+use Rattle.flexing.specs.Accepted.{Measured, Every, Accepted}
 
 -- ---- the hypothetical size is one of the item's lengths
 

@@ -1,3 +1,3 @@
 pub mod Flex
 pub mod Items
-pub mod Cells
+pub mod Accepted

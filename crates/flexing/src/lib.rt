@@ -1,10 +1,5 @@
-// Flexible lengths, CSS-FLEX 9.7 (document 01, "Flexible lengths"): the free space of a line is shared out over its items. The parts of a call, for
-// calls that check what they take: none is an entry point.
-pub mod flex;
-mod rounds;
+// Flexible lengths, CSS-FLEX 9.7 (document 01, "Flexible lengths"): the definition, and what is worked out of one item.
 pub mod sizes;
-pub mod sum;
-pub mod table;
 
 // An item as it is read: no number is -0.0, an auto margin is 0, and an absent maximum is infinite.
 pub struct Item {
@@ -31,12 +26,5 @@ pub struct Line {
 pub struct Share {
     pub growing: bool,
     pub free: f32,
-    pub weights: f32,
-}
-
-// Of a line the outer sizes, and of its unfrozen items the factors and the weights.
-pub struct Sums {
-    pub outer: f32,
-    pub factors: f32,
     pub weights: f32,
 }

@@ -1,7 +1,7 @@
-// One item by value: every operation on its numbers.
+// Every operation on numbers by value: those of one item, and the gaps and the free space of a line.
 ghost use mathlib.Core.Path.{_≡_};
-ghost use lib.IntN.{natAbs};
-ghost use Rattle.flexing.specs.Flex.{raised, lowered, magnitude, clamp, hypothetical, innerBase, outer, factor, weight, inflexible, flexed, violation, freezes, limited};
+ghost use Prim.Native.Nat.{_≤_};
+ghost use Rattle.flexing.specs.Flex.{raised, lowered, magnitude, clamp, hypothetical, innerBase, outer, factor, weight, inflexible, flexed, violation, freezes, gaps, limited};
 use crate::Item;
 use crate::Share;
 
@@ -75,6 +75,17 @@ pub fn is_inflexible(it: Item, growing: bool) -> bool
         return size < it.base;
     }
     it.base < size
+}
+
+// No entry point: it asks for at most 1,024 items.
+pub fn gaps_of(gap: f32, n: usize) -> f32
+    requires { ⌜ n ≤ 1024 ⌝ }
+    ensures { λ r. ⌜ r ≡ gaps gap n ⌝ }
+{
+    if n == 0 {
+        return 0.0;
+    }
+    gap * ((n - 1) as f32)
 }
 
 // Step 4b: factors that sum below 1 share out only that part of the initial free space, where it is the smaller.

@@ -12,7 +12,7 @@ use lib.IntN.{ℤ}
 use lib.Ieee.{Float}
 use Rattle.grid.specs.Grid.{cleaned}
 use Rattle.flexing.specs.Items.{itemAt}
-use Rattle.flexing.specs.Cells.{itemIn}
+use Rattle.rounds.specs.Cells.{itemIn}
 use Rattle.flexcalls.specs.Lines.{FlexedLines}
 use Rattle.flexcalls.specs.Parts.{Lined}
 use Rattle.flexcalls.proofs.Division.{lines-as}

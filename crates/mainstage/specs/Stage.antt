@@ -8,7 +8,7 @@ use lib.IntN.{ℤ}
 use lib.Ieee.{Float}
 use Rattle.grid.specs.Grid.{cleaned}
 use Rattle.flexing.specs.Items.{itemAt}
-use Rattle.flexing.specs.Cells.{Held}
+use Rattle.rounds.specs.Cells.{Held}
 use Rattle.flexcalls.specs.Lines.{FlexedLines}
 use Rattle.flexcalls.specs.Parts.{Lined}
 use Rattle.align.specs.Align.{nought, contentOf}

@@ -25,8 +25,8 @@ use Rattle.refusal.proofs.Checks.{judged-checked, accepted, then-passed, shape-
 use Rattle.breaking.specs.Steps.{LengthLimit}
 use Rattle.flexing.specs.Flex.{outerSum}
 use Rattle.flexing.specs.Items.{itemsOf}
-use Rattle.flexing.specs.Cells.{itemsIn, Tabled, Held}
-use Rattle.flexing.proofs.Columns.{tabled-of, items-are}
+use Rattle.rounds.specs.Cells.{itemsIn, Tabled, Held}
+use Rattle.rounds.proofs.Columns.{tabled-of, items-are}
 use Rattle.flexcalls.specs.Call.{inputOf}
 use Rattle.flexcalls.proofs.Accept.{inner-length, gap-length, measured-of, refused-then, passed-then}
 use Rattle.wrapping.specs.declared.Mode.the-variants.{Single, Greedy, Balanced}

@@ -12,7 +12,7 @@ use Rattle.breaking.specs.declared.AvailableSpace.{AvailableSpace}
 use Rattle.breaking.specs.Calls.{written}
 use Rattle.flexing.specs.declared.Item.{Item}
 use Rattle.flexing.specs.Items.{itemAt, itemsOf}
-use Rattle.flexing.specs.Cells.{itemsIn}
+use Rattle.rounds.specs.Cells.{itemsIn}
 use Rattle.flexcalls.specs.Lines.{FlexedLines}
 use Rattle.align.specs.Align.{nought, contentOf}
 use Rattle.bylines.specs.Main.{MainLines}

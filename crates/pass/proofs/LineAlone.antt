@@ -11,7 +11,7 @@ use lib.Ieee.{Float, nan}
 use Rattle.grid.specs.Grid.{cleaned}
 use Rattle.flexing.specs.declared.Item.{Item}
 use Rattle.flexing.specs.Items.{each, itemAt}
-use Rattle.flexing.proofs.Each.{each-ext}
+use Rattle.rounds.proofs.Each.{each-ext}
 use Rattle.flexing.proofs.Determined.{same-answer}
 use Rattle.flexcalls.specs.Lines.{lineStart, lineItems, lineCells, FlexedLines}
 use Rattle.flexcalls.proofs.Going.{flexed-as}

@@ -20,7 +20,7 @@ use Rattle.refusal.specs.declared.Verdict.the-variants as verdict
 use Rattle.refusal.proofs.Checks.{then-passed}
 use Rattle.flexing.specs.declared.Item.{Item}
 use Rattle.flexing.specs.Items.{itemAt, itemsOf}
-use Rattle.flexing.proofs.Each.{length-each}
+use Rattle.rounds.proofs.Each.{length-each}
 use Rattle.flexcalls.specs.Lines.{Beyond, FlexedLines}
 use Rattle.flexcalls.proofs.Going.{sum-ext}
 use Rattle.wrapping.specs.Wrapping as wrapping

@@ -11,7 +11,7 @@ use Rattle.refusal.specs.Marks.{Sound}
 use Rattle.refusal.specs.declared.Verdict.the-variants.{Passed}
 use Rattle.breaking.specs.Steps.{Breakable}
 use Rattle.flexing.specs.Flex.{outerSum}
-use Rattle.flexing.specs.Cells.{itemsIn, Tabled, Held}
+use Rattle.rounds.specs.Cells.{itemsIn, Tabled, Held}
 use Rattle.wrapping.specs.Wrapping as wrapping
 use Rattle.wrapping.specs.Outer.{outerSizes}
 use Rattle.container.specs.declared.Container.{Container}

@@ -40,7 +40,7 @@ fn pass_checked<'a>(
     let mut table = [0.0; 8192];
     stages::read_main(n, numbers, codes, &mut table);
     let gap = grid::clean(c.gap_main);
-    let v = refusal::check_sum(flexing::sum::outer_sum(&table, n, gap));
+    let v = refusal::check_sum(rounds::sum::outer_sum(&table, n, gap));
     match v {
         Verdict::Refused(why) => PassAnswer::Refused(why),
         Verdict::Passed => stages::lay_out(

@@ -3,7 +3,7 @@ ghost use mathlib.Core.Path.{_≡_};
 ghost use lib.ListN.{length};
 ghost use Rattle.wrapping.specs.Wrapping as wrapping;
 ghost use Rattle.container.specs.Container.{spaceOf};
-ghost use Rattle.flexing.specs.Cells.{Held};
+ghost use Rattle.rounds.specs.Cells.{Held};
 ghost use Rattle.container.specs.Columns.{mainLists};
 ghost use Rattle.container.specs.Stages.{Listed};
 ghost use Rattle.pass.specs.Pass.{lent, modeOf, Answered};
@@ -94,7 +94,7 @@ pub fn read_main<'a>(n: usize, numbers: &'a [f32], codes: &'a [u32], table: &mut
     requires { ⌜ Listed n (now numbers) (now codes) × (length (now table) ≡ 8192) ⌝ }
     ensures { λ _. ⌜ Held (mainLists n (now (numbers .entry)) (now (codes .entry))) (now (table .exit)) ⌝ }
 {
-    flexing::table::read_items(
+    rounds::table::read_items(
         column(numbers, n, 0),
         column(numbers, n, 1),
         column(numbers, n, 2),

@@ -7,7 +7,7 @@ use native.Mathlib.Omega.{arith}
 use lib.ListN.{length}
 use lib.Ieee.{Float}
 use Rattle.flexing.specs.Items.{Lists, lists}
-use Rattle.flexing.specs.Cells.{Even}
+use Rattle.flexing.specs.Accepted.{Even}
 use Rattle.crossaxis.specs.CrossSize.{Items, items}
 use Rattle.crossaxis.specs.CrossSize as cross
 use Rattle.crossaxis.specs.CrossAxis.{Sorted}

@@ -26,7 +26,7 @@ use Rattle.flexing.specs.declared.Item.{Item}
 use Rattle.flexing.specs.declared.Line.{Line}
 use Rattle.flexing.specs.Flex.{Cell, after, round, begun, first, grows, lineOf, targets, nought, outerSum}
 use Rattle.flexing.specs.Items.{Lists, count, each, itemAt, itemsOf}
-use Rattle.flexing.proofs.Each.{length-each}
+use Rattle.rounds.proofs.Each.{length-each}
 use Rattle.flexcalls.specs.declared.FlexAnswer.the-variants.{Done}
 use Rattle.flexcalls.specs.Call.{shapeOf, plainAt, inputOf, lineVerdict, FlexedLine}
 use Rattle.flexcalls.proofs.Accept.{even-of}

@@ -19,8 +19,9 @@ use Rattle.breaking.specs.Steps.{LengthLimit, Breakable}
 use Rattle.flexing.specs.declared.Item.{Item}
 use Rattle.flexing.specs.Flex.{outer, hypothetical, outerUnits, outerSum}
 use Rattle.flexing.specs.Items.{each}
-use Rattle.flexing.specs.Cells.{itemIn, itemsIn, Measured, Tabled}
-use Rattle.flexing.proofs.Each.{length-each, map-each, each-ext, outer-none, outer-snoc}
+use Rattle.flexing.specs.Accepted.{Measured}
+use Rattle.rounds.specs.Cells.{itemIn, itemsIn, Tabled}
+use Rattle.rounds.proofs.Each.{length-each, map-each, each-ext, outer-none, outer-snoc}
 use Rattle.flexing.proofs.Units.{outer-at}
 use Rattle.wrapping.specs.Outer.{outerSizes}
 

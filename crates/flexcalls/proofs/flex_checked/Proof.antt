@@ -5,14 +5,14 @@ use denote.Ref.{now}
 use Rattle.grid.specs.Grid.{Length}
 use Rattle.flexing.specs.Items.{Lists, lists}
 use Rattle.flexcalls.proofs.Accept.{inner-length, gap-length, measured-of, answered-as}
-use Rattle.flexing.proofs.Columns.{tabled-of, items-are}
+use Rattle.rounds.proofs.Columns.{tabled-of, items-are}
 use borrow.Author.Needs.{needs}
 use Rattle.flexcalls.proofs.flex_checked.Statement.{statement}
 use Rattle.flexcalls.proofs.flex_checked.Tie as tie
 use Rattle.flexcalls.proofs.flex_checked.Reads as reads
 use Rattle.flexcalls.proofs.flex_checked.Lts as lts
 use Rattle.flexcalls.proofs.flex_read.Reads as flex-read-reads
-use Rattle.flexing.proofs.table.read_items.Reads as read-items-reads
+use Rattle.rounds.proofs.table.read_items.Reads as read-items-reads
 use Rattle.grid.proofs.clean.Reads as clean-reads
 
 -- the lists that the function is called with

@@ -7,7 +7,7 @@ use Rattle.grid.specs.Grid.{Length, cleaned}
 use Rattle.refusal.specs.Domain.{summed}
 use Rattle.refusal.proofs.Checks.{summed-passed}
 use Rattle.flexing.specs.Flex.{outerSum}
-use Rattle.flexing.specs.Cells.{itemsIn}
+use Rattle.rounds.specs.Cells.{itemsIn}
 use Rattle.passchecks.specs.Checks.{passSum}
 use Rattle.pass.specs.Pass.{lent}
 use Rattle.pass.proofs.AcceptLaws.{items-in, listed-of, gap-is, table-is, accepted-of}
@@ -17,7 +17,7 @@ use Rattle.pass.proofs.pass_checked.Statement.{statement}
 use Rattle.pass.proofs.pass_checked.Tie as tie
 use Rattle.pass.proofs.pass_checked.Reads as reads
 use Rattle.pass.proofs.pass_checked.Lts as lts
-use Rattle.flexing.proofs.sum.outer_sum.Reads as outer-sum-reads
+use Rattle.rounds.proofs.sum.outer_sum.Reads as outer-sum-reads
 use Rattle.grid.proofs.clean.Reads as clean-reads
 use Rattle.pass.proofs.stages.lay_out.Reads as lay-out-reads
 use Rattle.pass.proofs.stages.read_main.Reads as read-main-reads

@@ -4,7 +4,7 @@ use native.Mathlib.Omega.{arith}
 use denote.Ref.{now}
 use Rattle.refusal.specs.Marks.{leastMark}
 use Rattle.flexing.specs.Items.{Lists, lists}
-use Rattle.flexing.specs.Cells.{Even}
+use Rattle.flexing.specs.Accepted.{Even}
 use Rattle.flexcalls.specs.Call.{inputOf}
 use Rattle.container.specs.Columns.{mainLists}
 use Rattle.passchecks.proofs.Taken.{number-inside, code-inside, even-main, lists-are}

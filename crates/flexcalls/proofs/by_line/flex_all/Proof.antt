@@ -3,7 +3,7 @@ use Prim.Native.Nat.{_≤_}
 use native.Mathlib.Omega.{arith}
 use lib.ListN.{length}
 use denote.Ref.{now}
-use Rattle.flexing.specs.Cells.{itemIn}
+use Rattle.rounds.specs.Cells.{itemIn}
 use Rattle.flexcalls.proofs.Going.{lines-within, lines-flexed}
 use borrow.Author.Needs.{needs}
 use Rattle.flexcalls.proofs.by_line.flex_all.Statement.{statement}

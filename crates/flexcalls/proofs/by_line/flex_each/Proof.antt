@@ -7,15 +7,16 @@ use lib.ListN.{length, getD, set}
 use lib.IntN.{ℤ}
 use denote.Ref.{now}
 use borrow.Rule.Slice.PartMut.{putMid, mid-len}
-use Rattle.flexing.specs.Cells.{itemIn, itemsIn, Accepted}
-use Rattle.flexing.proofs.Each.{length-each}
+use Rattle.flexing.specs.Accepted.{Accepted}
+use Rattle.rounds.specs.Cells.{itemIn, itemsIn}
+use Rattle.rounds.proofs.Each.{length-each}
 use Rattle.flexing.proofs.Units.{free-bits}
 use Rattle.flexcalls.proofs.Going.{Going, going-none, going-next, going-all, accepted-line, line-inside, Turn, turn-of}
 use Rattle.flexcalls.proofs.by_line.flex_each.Statement.{statement}
 use Rattle.flexcalls.proofs.by_line.flex_each.Tie as tie
 use Rattle.flexcalls.proofs.by_line.flex_each.Reads as reads
 use Rattle.flexcalls.proofs.by_line.flex_each.Lts as lts
-use Rattle.flexing.proofs.flex.flex_items.Reads as flex-items-reads
+use Rattle.rounds.proofs.flex.flex_items.Reads as flex-items-reads
 use Rattle.flexcalls.proofs.by_line.store_free.Reads as store-free-reads
 
 abbrev Inv-loop : tie.InvT-loop

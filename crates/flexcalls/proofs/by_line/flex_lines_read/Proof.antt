@@ -5,7 +5,7 @@ use denote.Ref.{now}
 use Rattle.refusal.specs.Domain.{summed}
 use Rattle.refusal.proofs.Checks.{summed-passed}
 use Rattle.flexing.specs.Flex.{outerSum}
-use Rattle.flexing.specs.Cells.{itemsIn}
+use Rattle.rounds.specs.Cells.{itemsIn}
 use Rattle.flexcalls.proofs.Going.{counts-few}
 use borrow.Author.Needs.{needs}
 use Rattle.flexcalls.proofs.by_line.flex_lines_read.Statement.{statement}
@@ -13,7 +13,7 @@ use Rattle.flexcalls.proofs.by_line.flex_lines_read.Tie as tie
 use Rattle.flexcalls.proofs.by_line.flex_lines_read.Reads as reads
 use Rattle.flexcalls.proofs.by_line.flex_lines_read.Lts as lts
 use Rattle.flexcalls.proofs.by_line.flex_all.Reads as flex-all-reads
-use Rattle.flexing.proofs.sum.outer_sum.Reads as outer-sum-reads
+use Rattle.rounds.proofs.sum.outer_sum.Reads as outer-sum-reads
 use Rattle.refusal.proofs.check_sum.Reads as check-sum-reads
 
 outer-sum-requires : tie.Need-outer-sum-requires

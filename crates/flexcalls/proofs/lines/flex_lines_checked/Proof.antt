@@ -9,7 +9,7 @@ use Rattle.flexcalls.proofs.lines.flex_lines_checked.Tie as tie
 use Rattle.flexcalls.proofs.lines.flex_lines_checked.Reads as reads
 use Rattle.flexcalls.proofs.lines.flex_lines_checked.Lts as lts
 use Rattle.flexcalls.proofs.by_line.flex_lines_read.Reads as flex-lines-read-reads
-use Rattle.flexing.proofs.table.read_items.Reads as read-items-reads
+use Rattle.rounds.proofs.table.read_items.Reads as read-items-reads
 use Rattle.grid.proofs.clean.Reads as clean-reads
 
 -- the lists that the function is called with

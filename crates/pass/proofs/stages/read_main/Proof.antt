@@ -3,7 +3,8 @@ use mathlib.Core.Path.{_≡_, sym, subst}
 use native.Mathlib.Omega.{arith}
 use denote.Ref.{now}
 use Rattle.flexing.specs.Items.{Lists, lists}
-use Rattle.flexing.specs.Cells.{Even, Held}
+use Rattle.flexing.specs.Accepted.{Even}
+use Rattle.rounds.specs.Cells.{Held}
 use Rattle.container.specs.Columns.{mainLists}
 use Rattle.passchecks.proofs.Taken.{number-inside, code-inside, even-main, lists-are}
 use borrow.Author.Needs.{needs}
@@ -13,7 +14,7 @@ use Rattle.pass.proofs.stages.read_main.Reads as reads
 use Rattle.pass.proofs.stages.read_main.Lts as lts
 use Rattle.container.proofs.columns.code_column.Reads as code-column-reads
 use Rattle.container.proofs.columns.column.Reads as column-reads
-use Rattle.flexing.proofs.table.read_items.Reads as read-items-reads
+use Rattle.rounds.proofs.table.read_items.Reads as read-items-reads
 
 -- where all of the columns are taken
 abbrev start : tie.After-code-column3 → tie.Start

@@ -1,0 +1,5 @@
+pub mod Each
+pub mod Round
+pub mod Loop
+pub mod Finish
+pub mod Columns

@@ -1,0 +1,103 @@
+-- The first cells: those before i are the definition's, those from i on as they were. Assumes nothing.
+use mathlib.Core.Path.{sym, ap, ap₂, _∙_}
+use mathlib.Core.Bool.{Bool}
+use Prim.Native.Nat.{ℕ, _+_, _-_}
+use native.Mathlib.Nat.{le-trans}
+use native.Mathlib.Omega.{arith}
+use lib.Ieee.{Float}
+use denote.Ref.{now}
+use Rattle.flexing.specs.declared.Item.{Item}
+use Rattle.flexing.specs.Flex.{Cell, inflexible, hypothetical, first}
+use Rattle.rounds.specs.Cells.{itemIn}
+use Rattle.rounds.proofs.Each.{put, Turned, turned-none, turned-next, turned-all, map-each}
+use Rattle.rounds.proofs.flex.begin.Statement.{statement}
+use Rattle.rounds.proofs.flex.begin.Tie as tie
+use Rattle.rounds.proofs.flex.begin.Reads as reads
+use Rattle.rounds.proofs.flex.begin.Lts as lts
+use Rattle.flexing.proofs.sizes.hypothetical_size.Reads as hypothetical-size-reads
+use Rattle.flexing.proofs.sizes.is_inflexible.Reads as is-inflexible-reads
+use Rattle.rounds.proofs.table.pick.Reads as pick-reads
+
+abbrev Inv-loop : tie.InvT-loop
+Inv-loop table from n growing frozen₀ targets₀ i₀ frozen targets i = Turned n (λ k. first growing (itemIn table (from + k))) (λ k. itemIn table (from + k)) frozen₀ targets₀ frozen targets i
+
+abbrev μ-loop : tie.MeasureT-loop
+μ-loop table from n growing frozen₀ targets₀ i₀ frozen targets i = n - i
+
+-- the items that the function is called with, and the cells that it is to make
+abbrev items : tie.Start Inv-loop μ-loop → ℕ → Item
+items s k = itemIn (now (s .args .table)) (s .args .from + k)
+
+abbrev want : tie.Start Inv-loop μ-loop → ℕ → Cell
+want s k = first (s .args .growing) (items s k)
+
+loop-holds : tie.Need-loop-holds Inv-loop μ-loop
+loop-holds c = let s = c .before in turned-none (s .args .n) (want s) (items s) (now (s .args .frozen)) (now (s .args .targets))
+
+add-pick : tie.Need-add-pick Inv-loop μ-loop
+add-pick c = omega (arith, c .loop-test .taken, c .before .before .before .pre .inside)
+
+pick-requires : tie.Need-pick-requires Inv-loop μ-loop
+pick-requires c κs = omega (arith, c .loop-test .taken, c .before .before .before .pre .inside)
+
+is-inflexible-requires : tie.Need-is-inflexible-requires Inv-loop μ-loop
+is-inflexible-requires c κs = tt
+
+element-write-frozen : tie.Need-element-write-frozen Inv-loop μ-loop
+element-write-frozen c = omega (arith, c .before .before .loop-test .taken, c .before .before .before .before .before .pre .inside)
+
+hypothetical-size-requires : tie.Need-hypothetical-size-requires Inv-loop μ-loop
+hypothetical-size-requires c κs = tt
+
+mul-targets : tie.Need-mul-targets Inv-loop μ-loop
+mul-targets c = omega (arith, c .before .before .before .loop-test .taken, c .before .before .before .before .before .before .pre .inside)
+
+slice-write-targets : tie.Need-slice-write-targets Inv-loop μ-loop
+slice-write-targets c = omega (arith, c .before .before .before .loop-test .taken, c .before .before .before .before .loop .inv .long, c .before .before .before .before .before .before .pre .room)
+
+add-i : tie.Need-add-i Inv-loop μ-loop
+add-i c = omega (arith, c .before .before .before .loop-test .taken, c .before .before .before .before .before .before .pre .inside)
+
+loop-less : tie.Need-loop-less Inv-loop μ-loop
+loop-less c = omega (arith, c .before .before .before .loop-test .taken)
+
+loop-again : tie.Need-loop-again Inv-loop μ-loop
+loop-again c =
+    let l = c .before .before .before .before .loop in
+    let s = c .before .before .before .before .before .before in
+    let it = c .before .before .pick .ensures in
+    turned-next (s .args .n) (want s) (items s) (now (s .args .frozen)) (now (s .args .targets)) (l .frozen) (l .targets) (l .i) (l .inv) (c .before .before .before .loop-test .taken) (s .pre .marks) (s .pre .room) (c .before .is-inflexible .result) (c .hypothetical-size .result)
+    (ap₂ (λ (m : Bool) (x : Float). put (items s (l .i)) m x) (c .before .is-inflexible .ensures ∙ ap (λ (y : Item). inflexible (s .args .growing) y) it) (c .hypothetical-size .ensures ∙ ap (λ (y : Item). hypothetical y) it))
+
+same-length : tie.Need-same-length Inv-loop μ-loop
+same-length c = c .before .loop .inv .long
+
+returns : tie.Need-returns Inv-loop μ-loop
+returns c =
+    let l = c .before .loop in
+    let s = c .before .before .before in
+    record {
+      cells-are = turned-all (s .args .n) (want s) (items s) (now (s .args .frozen)) (now (s .args .targets)) (l .frozen) (l .targets) (l .i) (l .inv) (c .loop-test .left) ∙ sym (map-each (first (s .args .growing)) (s .args .n) (items s));
+      marks-long = l .inv .marks;
+      kept = λ k h. l .inv .rest k (le-trans (l .inv .inside) h);
+    }
+
+pub begin-spec : {M : Type 1} → statement M
+begin-spec =
+    tie.close
+    (tie.spec
+    Inv-loop
+    μ-loop
+    loop-holds
+    add-pick
+    pick-requires
+    is-inflexible-requires
+    element-write-frozen
+    hypothetical-size-requires
+    mul-targets
+    slice-write-targets
+    add-i
+    loop-less
+    loop-again
+    same-length
+    returns)
