@@ -1,4 +1,1 @@
 pub mod Parted
-pub mod Spacing
-pub mod Sizing
-pub mod Placing

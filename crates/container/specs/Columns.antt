@@ -4,7 +4,7 @@ use Prim.Native.Nat.{ℕ, _*_}
 use lib.ListN.{take, drop}
 use lib.Ieee.{Float}
 use Rattle.flexing.specs.Items.{Lists, lists}
-use Rattle.crossaxis.specs.CrossSize.{Items, items}
+use Rattle.linesize.specs.CrossSize.{Items, items}
 
 -- list k of those lists
 unfoldable pub column : {A : Type 0} → ℕ → ℕ → List A → List A

@@ -7,7 +7,7 @@ use native.Mathlib.Omega.{arith}
 use lib.ListN.{length, set}
 use lib.Ieee.{Float}
 use Rattle.align.specs.declared.SelfAlignment.{SelfAlignment}
-use Rattle.crossaxis.specs.declared.cross_size.CrossItem.{CrossItem}
+use Rattle.linesize.specs.declared.cross_size.CrossItem.{CrossItem}
 use Rattle.crossaxis.specs.declared.cross_axis.CrossPlace.{CrossPlace}
 use Rattle.align.specs.Lists.{overwritten}
 use Rattle.crossaxis.specs.CrossAxis.{placedItem, Room}

@@ -7,11 +7,11 @@ use lib.ListN.{length}
 use lib.Ieee.{Float}
 use Rattle.grid.specs.Grid.{cleaned}
 use Rattle.align.specs.declared.ContentAlignment.{ContentAlignment}
-use Rattle.crossaxis.specs.declared.container.Cross.{Cross}
+use Rattle.linesize.specs.declared.container.Cross.{Cross}
 use Rattle.align.specs.Align.{_⊕_, _⊖_, nought}
 use Rattle.align.specs.Lists.{total, overwritten}
 use Rattle.align.specs.Axis.{gaps, offsets}
-use Rattle.crossaxis.specs.Container.{innerSize, orBounded, isReversed}
+use Rattle.linesize.specs.Container.{innerSize, orBounded, isReversed}
 use Rattle.crossaxis.specs.Lines.{gain, grownAt, lineGain, containerSize, freeCross, Along}
 
 -- g the gaps, s the lines before stretching, m what each gains, t the lines after it, k the container's size

@@ -6,12 +6,12 @@ use Rattle.grid.specs.Grid.{cleaned}
 use Rattle.align.specs.declared.Distribution.the-variants.{Stretch}
 use Rattle.align.specs.declared.ContentAlignment.the-variants.{Spread}
 use Rattle.breaking.specs.declared.Bound.the-variants.{Absent, Given}
-use Rattle.crossaxis.specs.declared.container.Wrap.the-variants as wrap
-use Rattle.crossaxis.specs.declared.container.Cross.{Cross}
+use Rattle.linesize.specs.declared.container.Wrap.the-variants as wrap
+use Rattle.linesize.specs.declared.container.Cross.{Cross}
 use Rattle.align.specs.Align.{counted}
 use Rattle.align.specs.Lists.{total}
 use Rattle.align.specs.Axis.{gaps}
-use Rattle.crossaxis.specs.Container.{bounded}
+use Rattle.linesize.specs.Container.{bounded}
 use Rattle.crossaxis.specs.Lines.{gainTo, gain, grown, grownAt, lineGain}
 
 container : Cross

@@ -8,11 +8,11 @@ use lib.Ieee.{Float}
 use Rattle.grid.specs.Grid.{cleaned}
 use Rattle.align.specs.declared.SelfAlignment.{SelfAlignment}
 use Rattle.align.specs.declared.SelfAlignment.the-variants.{Unsafe, Safe, Stretch}
-use Rattle.crossaxis.specs.declared.cross_size.CrossItem.{CrossItem}
+use Rattle.linesize.specs.declared.cross_size.CrossItem.{CrossItem}
 use Rattle.crossaxis.specs.declared.cross_axis.CrossPlace.{CrossPlace}
 use Rattle.align.specs.Align.{_⊕_, _⊖_, _⊘_, nought, two, selfOf, selfOffset}
 use Rattle.align.specs.Lists.{overwritten}
-use Rattle.crossaxis.specs.CrossSize.{clamp, hypothetical, margins, Items, count, Even, itemAt, yes}
+use Rattle.linesize.specs.CrossSize.{clamp, hypothetical, margins, Items, count, Even, itemAt, yes}
 
 abbrev pub isStretch : SelfAlignment → Bool
 isStretch (Unsafe p) = false

@@ -1,5 +1,2 @@
-pub mod Container
-pub mod CrossSize
 pub mod Lines
 pub mod CrossAxis
-pub mod Numbers

@@ -11,11 +11,11 @@ use Rattle.align.specs.declared.ContentAlignment.{ContentAlignment}
 use Rattle.align.specs.declared.ContentAlignment.the-variants.{Unsafe, Safe, Spread}
 use Rattle.breaking.specs.declared.Bound.{Bound}
 use Rattle.breaking.specs.declared.Bound.the-variants.{Absent, Given}
-use Rattle.crossaxis.specs.declared.container.Cross.{Cross}
+use Rattle.linesize.specs.declared.container.Cross.{Cross}
 use Rattle.align.specs.Align.{_⊕_, _⊖_, _⊘_, nought, counted}
 use Rattle.align.specs.Lists.{total, overwritten}
 use Rattle.align.specs.Axis.{gaps, offsets}
-use Rattle.crossaxis.specs.Container.{readCross, innerSize, orBounded, isReversed}
+use Rattle.linesize.specs.Container.{readCross, innerSize, orBounded, isReversed}
 
 -- "Under stretch"
 abbrev pub stretches : ContentAlignment → Bool

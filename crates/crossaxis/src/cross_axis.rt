@@ -3,11 +3,11 @@ ghost use mathlib.Core.Path.{_≡_};
 ghost use mathlib.Core.Bool.{_&&_};
 ghost use Prim.Native.Nat.{_<_};
 ghost use lib.ListN.{length};
-ghost use Rattle.crossaxis.specs.CrossSize.{items};
+ghost use Rattle.linesize.specs.CrossSize.{items};
 ghost use Rattle.crossaxis.specs.CrossAxis.{isStretched, usedSize, freeSpace, autoMargin, startMargin, endMargin, crossOffset, placedItem, Sorted, Room, Across};
-use crate::cross_size;
-use crate::cross_size::CrossItem;
 use align::SelfAlignment;
+use linesize::cross_size;
+use linesize::cross_size::CrossItem;
 
 // Where an item stands across its line.
 pub struct CrossPlace {

@@ -4,12 +4,12 @@ ghost use Prim.Native.Nat.{_≤_};
 ghost use lib.ListN.{length};
 ghost use Rattle.align.specs.Lists.{total, overwritten};
 ghost use Rattle.crossaxis.specs.Lines.{stretches, stretchTarget, gainTo, gain, grown, grownAt, Aligned};
-use crate::container;
-use crate::container::Cross;
 use align::ContentAlignment;
 use align::Distribution;
 use align::axis;
 use breaking::Bound;
+use linesize::container;
+use linesize::container::Cross;
 
 fn is_stretch(alignment: ContentAlignment) -> bool
     ensures { λ r. ⌜ r ≡ stretches alignment ⌝ }

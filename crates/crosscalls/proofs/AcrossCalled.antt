@@ -16,9 +16,9 @@ use Rattle.refusal.specs.Domain.{float, code, checked, then, asAnswer}
 use Rattle.refusal.specs.Marks.{mark, leastOf, leastUpTo, judged}
 use Rattle.refusal.specs.Shapes.{shapeOf}
 use Rattle.refusal.proofs.Marked.{container-two, judged-is, shaped}
-use Rattle.crossaxis.specs.CrossSize.{Items, count, Even}
+use Rattle.linesize.specs.CrossSize.{Items, count, Even}
 use Rattle.crossaxis.specs.CrossAxis.{Sorted, Room, Across}
-use Rattle.crossaxis.specs.Numbers.{acrossNumbersAt}
+use Rattle.crosschecks.specs.Numbers.{acrossNumbersAt}
 use Rattle.crosscalls.specs.AcrossCall.{acrossInput, lengths, acrossVerdict, AcrossResult, result, acrossInto, acrossCall}
 
 module _ (line : Float) (reversed : ℕ) (ls : Items) (alignment auto-size : List ℕ) where

@@ -12,14 +12,14 @@ use Rattle.refusal.specs.declared.Verdict.the-variants as verdict
 use Rattle.refusal.specs.Domain.{code, checked, then}
 use Rattle.refusal.specs.Marks.{mark, leastOf, leastUpTo, judged}
 use Rattle.align.specs.declared.ContentAlignment.{ContentAlignment}
-use Rattle.crossaxis.specs.declared.container.Cross.{Cross}
-use Rattle.crossaxis.specs.declared.numbers.CrossNumbers.{CrossNumbers}
+use Rattle.linesize.specs.declared.container.Cross.{Cross}
+use Rattle.crosschecks.specs.declared.numbers.CrossNumbers.{CrossNumbers}
 use Rattle.crosscalls.specs.declared.line_call.LinesAnswer.the-variants.{Placed, Refused}
 use Rattle.align.specs.Align.{contentOf}
 use Rattle.crossaxis.specs.Lines.{Aligned}
 use Rattle.refusal.specs.Shapes.{shapeOf}
 use Rattle.refusal.specs.Lists.{floatAt}
-use Rattle.crossaxis.specs.Numbers.{crossOf, crossNumbers}
+use Rattle.crosschecks.specs.Numbers.{crossOf, crossNumbers}
 use Rattle.crosscalls.specs.LineCall.{linesInput, linesVerdict, LinesResult, result, linesInto, linesCall}
 use Rattle.refusal.proofs.Marked.{judged-is, shaped}
 

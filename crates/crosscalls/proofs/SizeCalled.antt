@@ -12,10 +12,10 @@ use Rattle.refusal.specs.Domain.{checked, then}
 use Rattle.refusal.specs.Marks.{leastOf, leastUpTo, judged}
 use Rattle.refusal.specs.Shapes.{shapeOf}
 use Rattle.refusal.proofs.Marked.{judged-is, shaped}
-use Rattle.crossaxis.specs.declared.container.Cross.{Cross}
-use Rattle.crossaxis.specs.declared.numbers.CrossNumbers.{CrossNumbers}
-use Rattle.crossaxis.specs.CrossSize.{Items, count, Even, lineOf}
-use Rattle.crossaxis.specs.Numbers.{crossOf, sizingNumbers, crossNumbersAt}
+use Rattle.linesize.specs.declared.container.Cross.{Cross}
+use Rattle.crosschecks.specs.declared.numbers.CrossNumbers.{CrossNumbers}
+use Rattle.linesize.specs.CrossSize.{Items, count, Even, lineOf}
+use Rattle.crosschecks.specs.Numbers.{crossOf, sizingNumbers, crossNumbersAt}
 use Rattle.crosscalls.specs.declared.size_call.SizeAnswer.{SizeAnswer}
 use Rattle.crosscalls.specs.declared.size_call.SizeAnswer.the-variants.{Sized, Refused}
 use Rattle.crosscalls.specs.SizeCall.{sizeInput, lengths, sizeVerdict, sizeInto, sizeCall}

@@ -15,9 +15,9 @@ use Rattle.refusal.specs.declared.Answer.{Answer}
 use Rattle.refusal.specs.declared.Answer.the-variants.{Done}
 use Rattle.refusal.specs.declared.Answer.the-variants as answer
 use Rattle.align.specs.Lists.{overwritten}
-use Rattle.crossaxis.specs.CrossSize.{Items, count}
+use Rattle.linesize.specs.CrossSize.{Items, count}
 use Rattle.crossaxis.specs.CrossAxis.{placedAt}
-use Rattle.crossaxis.specs.Numbers.{acrossNumbersAt}
+use Rattle.crosschecks.specs.Numbers.{acrossNumbersAt}
 use Rattle.crosscalls.specs.SizeCall as size
 
 -- the container's numbers: the line's size, which an earlier step worked out, and the code of reversed wrapping

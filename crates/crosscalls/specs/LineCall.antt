@@ -14,12 +14,12 @@ use Rattle.refusal.specs.declared.Verdict.the-variants as verdict
 use Rattle.align.specs.Align.{contentOf}
 use Rattle.align.specs.Lists.{overwritten}
 use Rattle.align.specs.Axis as axis
-use Rattle.crossaxis.specs.declared.container.Cross.{Cross}
-use Rattle.crossaxis.specs.declared.numbers.CrossNumbers.{CrossNumbers}
+use Rattle.linesize.specs.declared.container.Cross.{Cross}
+use Rattle.crosschecks.specs.declared.numbers.CrossNumbers.{CrossNumbers}
 use Rattle.crosscalls.specs.declared.line_call.LinesAnswer.{LinesAnswer}
 use Rattle.crosscalls.specs.declared.line_call.LinesAnswer.the-variants.{Placed, Refused}
-use Rattle.crossaxis.specs.Container.{isReversed, readCross}
-use Rattle.crossaxis.specs.Numbers.{crossOf, crossNumbers}
+use Rattle.linesize.specs.Container.{isReversed, readCross}
+use Rattle.crosschecks.specs.Numbers.{crossOf, crossNumbers}
 use Rattle.crossaxis.specs.Lines.{grownAt, lineGain, containerSize, freeCross}
 
 abbrev pub linesInput : CrossNumbers → ℕ → List Float → Input

@@ -7,9 +7,9 @@ use Rattle.refusal.specs.Shapes.{shapeOf}
 use Rattle.refusal.specs.declared.Verdict.{Verdict}
 use Rattle.refusal.specs.declared.Verdict.the-variants.{Passed}
 use Rattle.refusal.specs.declared.Verdict.the-variants as verdict
-use Rattle.crossaxis.specs.declared.numbers.CrossNumbers.{CrossNumbers}
-use Rattle.crossaxis.specs.CrossSize.{Items, count, lineOf}
-use Rattle.crossaxis.specs.Numbers.{crossOf, sizingNumbers, crossNumbersAt}
+use Rattle.crosschecks.specs.declared.numbers.CrossNumbers.{CrossNumbers}
+use Rattle.linesize.specs.CrossSize.{Items, count, lineOf}
+use Rattle.crosschecks.specs.Numbers.{crossOf, sizingNumbers, crossNumbersAt}
 use Rattle.crosscalls.specs.declared.size_call.SizeAnswer.{SizeAnswer}
 use Rattle.crosscalls.specs.declared.size_call.SizeAnswer.the-variants.{Sized, Refused}
 

@@ -13,11 +13,12 @@ use lib.Ieee.{Float}
 use Rattle.align.specs.declared.ContentAlignment.{ContentAlignment}
 use Rattle.align.specs.Align.{nought}
 use Rattle.align.specs.Lists.{each}
-use Rattle.crossaxis.specs.declared.container.Cross.{Cross}
-use Rattle.crossaxis.specs.CrossSize.{Items, lineOf}
+use Rattle.linesize.specs.declared.container.Cross.{Cross}
+use Rattle.linesize.specs.CrossSize.{Items, lineOf}
 use Rattle.crossaxis.specs.Lines.{Aligned}
-use Rattle.bylines.specs.Cross.{crossLine, SizesReady, crossSizes, AcrossReady, AcrossLines}
-use Rattle.bylines.proofs.Sizing.{sizes-front}
+use Rattle.sizelines.specs.Sizes.{crossLine, SizesReady, crossSizes}
+use Rattle.crosslines.specs.Cross.{AcrossReady, AcrossLines}
+use Rattle.sizelines.proofs.Sizing.{sizes-front}
 use Rattle.container.specs.declared.Container.{Container}
 use Rattle.container.specs.Columns.{column, crossItems, alignSelf, autoSize}
 use Rattle.container.specs.Stages.{Inside, Stored, FourStored}

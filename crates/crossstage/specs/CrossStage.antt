@@ -5,12 +5,13 @@ use Prim.Native.Nat.{ℕ, _*_, _≤_, _<_}
 use lib.ListN.{length, replicate}
 use lib.Ieee.{Float}
 use Rattle.align.specs.Align.{nought, contentOf}
-use Rattle.crossaxis.specs.declared.container.Cross.{Cross}
-use Rattle.crossaxis.specs.Container.{wrapOf, isReversed}
-use Rattle.crossaxis.specs.Numbers.{crossOf}
+use Rattle.linesize.specs.declared.container.Cross.{Cross}
+use Rattle.linesize.specs.Container.{wrapOf, isReversed}
+use Rattle.crosschecks.specs.Numbers.{crossOf}
 use Rattle.crossaxis.specs.Lines.{Aligned}
 use Rattle.bylines.specs.Parts.{Division, Past}
-use Rattle.bylines.specs.Cross.{crossSizes, AcrossLines}
+use Rattle.sizelines.specs.Sizes.{crossSizes}
+use Rattle.crosslines.specs.Cross.{AcrossLines}
 use Rattle.container.specs.declared.Container.{Container}
 use Rattle.container.specs.Columns.{column, crossItems, alignSelf, autoSize}
 use Rattle.container.specs.Container.{crossNumbersOf}

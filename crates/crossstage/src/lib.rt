@@ -3,23 +3,23 @@
 ghost use mathlib.Core.Path.{_≡_};
 ghost use Prim.Native.Nat.{_*_, _≤_};
 ghost use lib.ListN.{length};
-ghost use Rattle.bylines.specs.Cross.{crossSizes};
+ghost use Rattle.sizelines.specs.Sizes.{crossSizes};
 ghost use Rattle.container.specs.Columns.{crossItems};
 ghost use Rattle.crossstage.specs.CrossStage.{crossAxis, Ready, AlignedLines, LinesPlaced, PlacedAcross, ItemsAcross};
 use align::content_of;
-use bylines::cross_axis::across_by_line;
-use bylines::cross_size::cross_sizes;
 use container::Container;
 use container::columns::code_column;
 use container::columns::column;
 use container::columns::store_column;
 use container::columns::store_four;
-use crossaxis::container::Cross;
-use crossaxis::container::is_reversed;
-use crossaxis::container::wrap_of;
 use crossaxis::lines::align_lines;
-use crossaxis::numbers::cross_of;
+use crosschecks::numbers::cross_of;
+use crosslines::across_by_line;
+use linesize::container::Cross;
+use linesize::container::is_reversed;
+use linesize::container::wrap_of;
 use passchecks::cross_numbers;
+use sizelines::cross_sizes;
 
 fn cross_axis(c: Container) -> Cross
     ensures { λ r. ⌜ r ≡ crossAxis c ⌝ }

@@ -20,7 +20,7 @@ use Rattle.align.specs.declared.ContentAlignment.{ContentAlignment}
 use Rattle.align.specs.Align.{nought, contentOf}
 use Rattle.mainaxis.specs.MainAxis.{Line, line}
 use Rattle.bylines.specs.Parts.{Past}
-use Rattle.bylines.specs.Main.{MainReady, MainLines}
+use Rattle.mainlines.specs.Main.{MainReady, MainLines}
 use Rattle.container.specs.declared.Container.{Container}
 use Rattle.container.specs.Columns.{column, mainLists}
 use Rattle.container.specs.Container.{reversed}

@@ -13,7 +13,7 @@ use Rattle.flexcalls.specs.Lines.{FlexedLines}
 use Rattle.flexcalls.specs.Parts.{Lined}
 use Rattle.align.specs.Align.{nought, contentOf}
 use Rattle.mainaxis.specs.MainAxis.{Line, line}
-use Rattle.bylines.specs.Main.{MainLines}
+use Rattle.mainlines.specs.Main.{MainLines}
 use Rattle.container.specs.declared.Container.{Container}
 use Rattle.container.specs.Columns.{column, mainLists}
 use Rattle.container.specs.Container.{reversed}

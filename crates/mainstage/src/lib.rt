@@ -5,12 +5,12 @@ ghost use Prim.Native.Nat.{_+_, _*_, _≤_};
 ghost use lib.Dec.{eqb};
 ghost use lib.ListN.{length};
 ghost use Rattle.mainstage.specs.Stage.{Ready, Run, MainStage};
-use bylines::main_axis::main_by_line;
 use container::Container;
 use container::columns::code_column;
 use container::columns::column;
 use container::columns::store_four;
 use flexcalls::by_line::flex_all;
+use mainlines::main_by_line;
 
 // Whether items are walked from the last one.
 fn is_reversed(direction: u32) -> bool

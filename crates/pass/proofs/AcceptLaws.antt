@@ -32,8 +32,8 @@ use Rattle.flexcalls.proofs.Accept.{inner-length, gap-length, measured-of, refu
 use Rattle.wrapping.specs.declared.Mode.the-variants.{Single, Greedy, Balanced}
 use Rattle.wrapping.specs.Wrapping as wrapping
 use Rattle.wrapping.proofs.Given.{table-breakable}
-use Rattle.crossaxis.specs.Numbers.{boundNumbers, crossNumbers}
-use Rattle.crossaxis.specs.declared.numbers.CrossNumbers.{CrossNumbers}
+use Rattle.crosschecks.specs.Numbers.{boundNumbers, crossNumbers}
+use Rattle.crosschecks.specs.declared.numbers.CrossNumbers.{CrossNumbers}
 use Rattle.container.specs.declared.Container.{Container}
 use Rattle.container.specs.Columns.{column, mainLists, crossItems, alignSelf, autoSize}
 use Rattle.container.specs.Container.{spaceOf, limitOf, balances, crossNumbersOf}

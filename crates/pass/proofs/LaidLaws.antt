@@ -15,7 +15,7 @@ use Rattle.flexing.specs.Items.{itemAt, itemsOf}
 use Rattle.rounds.specs.Cells.{itemsIn}
 use Rattle.flexcalls.specs.Lines.{FlexedLines}
 use Rattle.align.specs.Align.{nought, contentOf}
-use Rattle.bylines.specs.Main.{MainLines}
+use Rattle.mainlines.specs.Main.{MainLines}
 use Rattle.wrapping.specs.declared.Mode.{Mode}
 use Rattle.wrapping.specs.declared.Mode.the-variants.{Single, Greedy, Balanced}
 use Rattle.wrapping.specs.Wrapping as wrapping

@@ -16,7 +16,7 @@ use Rattle.flexing.proofs.Determined.{same-answer}
 use Rattle.flexcalls.specs.Lines.{lineStart, lineItems, lineCells, FlexedLines}
 use Rattle.flexcalls.proofs.Going.{flexed-as}
 use Rattle.bylines.specs.Parts.{part}
-use Rattle.bylines.proofs.Spacing.{same-line, main-independent}
+use Rattle.mainlines.proofs.Spacing.{same-line, main-independent}
 use Rattle.container.specs.declared.Container.{Container}
 use Rattle.container.specs.Columns.{column, mainLists}
 use Rattle.pass.specs.Pass.{Lent, Laid}

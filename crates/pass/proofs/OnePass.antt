@@ -27,14 +27,15 @@ use Rattle.wrapping.specs.Wrapping as wrapping
 use Rattle.wrapping.specs.Outer.{outerSizes}
 use Rattle.wrapping.proofs.Division.{no-choice}
 use Rattle.align.specs.Align.{contentOf}
-use Rattle.crossaxis.specs.Container.{wrapOf, isReversed}
+use Rattle.linesize.specs.Container.{wrapOf, isReversed}
 use Rattle.crossaxis.specs.Lines.{Aligned}
 use Rattle.bylines.specs.Parts.{Division, Past}
-use Rattle.bylines.specs.Main.{MainLines}
-use Rattle.bylines.specs.Cross.{AcrossLines, crossSizes}
+use Rattle.mainlines.specs.Main.{MainLines}
+use Rattle.sizelines.specs.Sizes.{crossSizes}
+use Rattle.crosslines.specs.Cross.{AcrossLines}
 use Rattle.bylines.proofs.Parted.{same-parts}
-use Rattle.bylines.proofs.Spacing as spacing
-use Rattle.bylines.proofs.Placing as placing
+use Rattle.mainlines.proofs.Spacing as spacing
+use Rattle.crosslines.proofs.Placing as placing
 use Rattle.container.specs.declared.Container.{Container}
 use Rattle.container.specs.Columns.{column, mainLists, crossItems, alignSelf, autoSize}
 use Rattle.container.specs.Container.{limitOf, reversed}

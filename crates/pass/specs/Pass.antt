@@ -18,13 +18,14 @@ use Rattle.wrapping.specs.Wrapping as wrapping
 use Rattle.wrapping.specs.Outer.{outerSizes}
 use Rattle.align.specs.Align.{nought, contentOf}
 use Rattle.mainaxis.specs.MainAxis.{Line, line}
-use Rattle.crossaxis.specs.declared.container.Cross.{Cross}
-use Rattle.crossaxis.specs.Container.{wrapOf, isReversed}
-use Rattle.crossaxis.specs.Numbers.{crossOf}
+use Rattle.linesize.specs.declared.container.Cross.{Cross}
+use Rattle.linesize.specs.Container.{wrapOf, isReversed}
+use Rattle.crosschecks.specs.Numbers.{crossOf}
 use Rattle.crossaxis.specs.Lines.{Aligned}
 use Rattle.bylines.specs.Parts.{Past}
-use Rattle.bylines.specs.Main.{MainLines}
-use Rattle.bylines.specs.Cross.{crossSizes, AcrossLines}
+use Rattle.mainlines.specs.Main.{MainLines}
+use Rattle.sizelines.specs.Sizes.{crossSizes}
+use Rattle.crosslines.specs.Cross.{AcrossLines}
 use Rattle.container.specs.declared.Container.{Container}
 use Rattle.container.specs.Columns.{column, mainLists, crossItems, alignSelf, autoSize}
 use Rattle.container.specs.Container.{limitOf, reversed, crossNumbersOf}

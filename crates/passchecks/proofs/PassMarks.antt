@@ -13,9 +13,9 @@ use Rattle.refusal.specs.declared.Kind.the-variants.{Length}
 use Rattle.refusal.proofs.Checks.{least-append}
 use Rattle.refusal.proofs.Marked.{items-append}
 use Rattle.flexcalls.specs.Call.{inputOf}
-use Rattle.crossaxis.specs.CrossSize.{Items}
+use Rattle.linesize.specs.CrossSize.{Items}
 use Rattle.crossaxis.specs.CrossAxis.{Sorted}
-use Rattle.crossaxis.specs.Numbers.{crossNumbers, acrossNumbersAt}
+use Rattle.crosschecks.specs.Numbers.{crossNumbers, acrossNumbersAt}
 use Rattle.container.specs.declared.Container.{Container}
 use Rattle.container.specs.Columns.{column, mainLists, crossItems, alignSelf, autoSize}
 use Rattle.container.specs.Container.{crossNumbersOf}

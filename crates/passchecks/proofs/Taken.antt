@@ -8,8 +8,8 @@ use lib.ListN.{length}
 use lib.Ieee.{Float}
 use Rattle.flexing.specs.Items.{Lists, lists}
 use Rattle.flexing.specs.Accepted.{Even}
-use Rattle.crossaxis.specs.CrossSize.{Items, items}
-use Rattle.crossaxis.specs.CrossSize as cross
+use Rattle.linesize.specs.CrossSize.{Items, items}
+use Rattle.linesize.specs.CrossSize as cross
 use Rattle.crossaxis.specs.CrossAxis.{Sorted}
 use Rattle.container.specs.Columns.{column, mainLists, crossItems, alignSelf, autoSize}
 use Rattle.container.specs.Stages.{Inside, Listed}

@@ -14,7 +14,7 @@ use Rattle.refusal.specs.declared.Kind.the-variants.{Length}
 use Rattle.flexing.specs.Flex.{outerSum}
 use Rattle.flexing.specs.Items.{itemsOf}
 use Rattle.flexcalls.specs.Call.{inputOf}
-use Rattle.crossaxis.specs.Numbers.{crossNumbers, acrossNumbersAt}
+use Rattle.crosschecks.specs.Numbers.{crossNumbers, acrossNumbersAt}
 use Rattle.container.specs.declared.Container.{Container}
 use Rattle.container.specs.Columns.{mainLists, crossItems, alignSelf, autoSize}
 use Rattle.container.specs.Container.{balances, crossNumbersOf}

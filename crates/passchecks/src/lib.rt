@@ -5,7 +5,7 @@ ghost use lib.ListN.{length};
 ghost use Rattle.refusal.specs.Domain.{shape, then};
 ghost use Rattle.refusal.specs.Marks.{leastOf, leastUpTo, leastMark, judged};
 ghost use Rattle.flexcalls.specs.Call.{inputOf};
-ghost use Rattle.crossaxis.specs.Numbers.{acrossNumbersAt};
+ghost use Rattle.crosschecks.specs.Numbers.{acrossNumbersAt};
 ghost use Rattle.container.specs.Columns.{mainLists, crossItems, alignSelf, autoSize};
 ghost use Rattle.container.specs.Container.{balances, crossNumbersOf};
 ghost use Rattle.passchecks.specs.Checks.{workRoom, passRoom, containerNumbers, passInput};
@@ -13,7 +13,7 @@ ghost use Rattle.container.specs.Stages.{Listed};
 use container::Container;
 use container::columns::code_column;
 use container::columns::column;
-use crossaxis::numbers::CrossNumbers;
+use crosschecks::numbers::CrossNumbers;
 use refusal::Kind;
 use refusal::Mark;
 use refusal::Refusal;
@@ -112,7 +112,7 @@ pub fn cross_numbers(c: Container) -> CrossNumbers
 fn mark_container(c: Container) -> Mark
     ensures { λ r. ⌜ r .0 ≡ leastOf (containerNumbers c) 0 ⌝ }
 {
-    let cross = crossaxis::numbers::mark_cross(cross_numbers(c));
+    let cross = crosschecks::numbers::mark_cross(cross_numbers(c));
     let limit = mark_given(Kind::Length, c.limit, c.limit_kind == 0, 0);
     let m = least(mark_code(13, c.align_content, 0), least(limit, cross));
     let m = least(mark_code(13, c.justify_content, 0), m);
@@ -125,7 +125,7 @@ fn mark_across<'a>(n: usize, numbers: &'a [f32], codes: &'a [u32]) -> Mark
     requires { ⌜ Listed n (now numbers) (now codes) ⌝ }
     ensures { λ r. ⌜ r .0 ≡ leastUpTo (λ i. leastOf (acrossNumbersAt (crossItems n (now (numbers .entry)) (now (codes .entry))) (alignSelf n (now (codes .entry))) (autoSize n (now (codes .entry))) i) (i + 1)) n ⌝ }
 {
-    crossaxis::marks::mark_across(
+    crosschecks::marks::mark_across(
         column(numbers, n, 8),
         column(numbers, n, 9),
         column(numbers, n, 10),

@@ -6,7 +6,7 @@ use lib.Dec.{lit<}
 use lib.ListN.{length}
 use lib.Ieee.{Float}
 use Rattle.flexing.specs.Items.{lists}
-use Rattle.crossaxis.specs.CrossSize.{items}
+use Rattle.linesize.specs.CrossSize.{items}
 use Rattle.container.specs.Columns.{column, mainLists, crossItems, alignSelf, autoSize}
 use Rattle.records.specs.declared.Item.{Item}
 use Rattle.records.specs.Items.{numbersOf, codesOf}

@@ -5,8 +5,8 @@ use Prim.Native.Nat.{ℕ}
 use lib.Ieee.{Float}
 use Rattle.refusal.specs.declared.Answer.{Answer}
 use Rattle.mainaxis.specs.MainCall as main
-use Rattle.crossaxis.specs.declared.numbers.CrossNumbers.{CrossNumbers}
-use Rattle.crossaxis.specs.CrossSize.{Items}
+use Rattle.crosschecks.specs.declared.numbers.CrossNumbers.{CrossNumbers}
+use Rattle.linesize.specs.CrossSize.{Items}
 use Rattle.crosscalls.specs.declared.size_call.SizeAnswer.{SizeAnswer}
 use Rattle.crosscalls.specs.declared.line_call.LinesAnswer.{LinesAnswer}
 use Rattle.crosscalls.specs.SizeCall as size

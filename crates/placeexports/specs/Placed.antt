@@ -3,7 +3,7 @@ use mathlib.Core.List.{List}
 use lib.Ieee.{Float, binary32, ofBits}
 use Rattle.refusal.specs.Domain.{refusalOf}
 use Rattle.mainaxis.specs.MainCall.{MainResult}
-use Rattle.crossaxis.specs.declared.numbers.CrossNumbers.{CrossNumbers}
+use Rattle.crosschecks.specs.declared.numbers.CrossNumbers.{CrossNumbers}
 use Rattle.crosscalls.specs.declared.size_call.SizeAnswer.{SizeAnswer}
 use Rattle.crosscalls.specs.declared.size_call.SizeAnswer.the-variants as size
 use Rattle.crosscalls.specs.declared.line_call.LinesAnswer.{LinesAnswer}

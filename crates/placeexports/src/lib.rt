@@ -2,14 +2,14 @@
 ghost use mathlib.Core.Path.{_≡_};
 ghost use Rattle.mainaxis.specs.MainAxis.{line};
 ghost use Rattle.mainaxis.specs.MainCall.{mainCall};
-ghost use Rattle.crossaxis.specs.CrossSize.{items};
+ghost use Rattle.linesize.specs.CrossSize.{items};
 ghost use Rattle.crosscalls.specs.SizeCall.{sizeCall};
 ghost use Rattle.crosscalls.specs.LineCall.{linesCall};
 ghost use Rattle.crosscalls.specs.AcrossCall.{acrossCall};
 ghost use Rattle.placeexports.specs.Placed.{numbersOf, cSize, cNothing, cLine, cLines, cMain, mainFromC, cAligned, linesFromC, cAcross, acrossFromC};
-use crossaxis::numbers::CrossNumbers;
 use crosscalls::line_call::LinesAnswer;
 use crosscalls::size_call::SizeAnswer;
+use crosschecks::numbers::CrossNumbers;
 use crossing::CAnswer;
 
 // Number and place as in CAnswer; then a line's cross size, or the container's inner one. It is 0.0 on refusal.

@@ -26,7 +26,7 @@ use Rattle.align.specs.Align.{fallback, madeSafe, positioned, firstOffset, late
 use Rattle.align.specs.Axis as axis
 use Rattle.align.specs.Lists.{total, each, overwritten}
 use Rattle.mainaxis.specs.MainAxis as main
-use Rattle.crossaxis.specs.Container.{readCross, bounded, isReversed}
+use Rattle.linesize.specs.Container.{readCross, bounded, isReversed}
 use Rattle.crossaxis.specs.Lines.{gainTo, gain, grown, grownAt, lineGain, containerSize, freeCross, Aligned}
 use Rattle.table.specs.Table.{px, float, flexible, none, half, Row, table, onto, container, Plain, Holds, Every}
 use Rattle.table.specs.Table as row

@@ -16,8 +16,8 @@ use Rattle.align.specs.declared.Distribution.{Distribution}
 use Rattle.align.specs.declared.Distribution.the-variants.{Stretch, SpaceBetween}
 use Rattle.align.specs.declared.ContentAlignment.the-variants.{Spread}
 use Rattle.mainaxis.specs.MainAxis.{Line, count, freeSpace, autoCount, Spaced}
-use Rattle.crossaxis.specs.declared.container.Wrap.the-variants as wrap
-use Rattle.crossaxis.specs.declared.container.Cross.{Cross}
+use Rattle.linesize.specs.declared.container.Wrap.the-variants as wrap
+use Rattle.linesize.specs.declared.container.Cross.{Cross}
 use Rattle.crossaxis.specs.Lines.{Aligned}
 
 -- ---- whole pixels: in sixty-fourths, and as a float

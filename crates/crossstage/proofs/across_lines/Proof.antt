@@ -2,8 +2,8 @@
 use mathlib.Core.Path.{_≡_, ap, _∙_}
 use native.Mathlib.Omega.{arith}
 use denote.Ref.{now}
-use Rattle.crossaxis.specs.Container.{isReversed}
-use Rattle.crossaxis.specs.CrossSize.{items}
+use Rattle.linesize.specs.Container.{isReversed}
+use Rattle.linesize.specs.CrossSize.{items}
 use Rattle.container.specs.Columns.{crossItems}
 use Rattle.passchecks.proofs.Taken.{number-inside, code-inside, items-are}
 use Rattle.crossstage.proofs.CrossLaws.{across-ready-as, across-as}
@@ -12,11 +12,11 @@ use Rattle.crossstage.proofs.across_lines.Statement.{statement}
 use Rattle.crossstage.proofs.across_lines.Tie as tie
 use Rattle.crossstage.proofs.across_lines.Reads as reads
 use Rattle.crossstage.proofs.across_lines.Lts as lts
-use Rattle.bylines.proofs.cross_axis.across_by_line.Reads as across-by-line-reads
+use Rattle.crosslines.proofs.across_by_line.Reads as across-by-line-reads
 use Rattle.container.proofs.columns.code_column.Reads as code-column-reads
 use Rattle.container.proofs.columns.column.Reads as column-reads
-use Rattle.crossaxis.proofs.container.is_reversed.Reads as is-reversed-reads
-use Rattle.crossaxis.proofs.container.wrap_of.Reads as wrap-of-reads
+use Rattle.linesize.proofs.container.is_reversed.Reads as is-reversed-reads
+use Rattle.linesize.proofs.container.wrap_of.Reads as wrap-of-reads
 
 -- where all of the columns are taken
 abbrev start : tie.After-code-column5 → tie.Start

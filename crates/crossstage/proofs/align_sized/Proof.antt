@@ -5,7 +5,7 @@ use mathlib.Core.List.{List, []}
 use lib.ListN.{length, take}
 use lib.Ieee.{Float}
 use denote.Ref.{now}
-use Rattle.bylines.specs.Cross.{crossSizes}
+use Rattle.sizelines.specs.Sizes.{crossSizes}
 use Rattle.container.specs.Columns.{crossItems}
 use Rattle.crossstage.specs.CrossStage.{crossAxis}
 use Rattle.crossstage.proofs.CrossLaws.{aligned-as, asked-are, front-long}

@@ -1,12 +1,12 @@
 -- Its numbers, read. Assumes nothing.
 use mathlib.Core.Path.{ap, _∙_}
-use Rattle.crossaxis.specs.Numbers.{crossOf}
+use Rattle.crosschecks.specs.Numbers.{crossOf}
 use borrow.Author.Needs.{needs}
 use Rattle.crossstage.proofs.cross_axis.Statement.{statement}
 use Rattle.crossstage.proofs.cross_axis.Tie as tie
 use Rattle.crossstage.proofs.cross_axis.Reads as reads
 use Rattle.crossstage.proofs.cross_axis.Lts as lts
-use Rattle.crossaxis.proofs.numbers.cross_of.Reads as cross-of-reads
+use Rattle.crosschecks.proofs.numbers.cross_of.Reads as cross-of-reads
 use Rattle.passchecks.proofs.cross_numbers.Reads as cross-numbers-reads
 
 cross-numbers-requires : tie.Need-cross-numbers-requires

@@ -2,7 +2,7 @@
 use mathlib.Core.Path.{_≡_}
 use native.Mathlib.Omega.{arith}
 use denote.Ref.{now}
-use Rattle.crossaxis.specs.CrossSize.{items}
+use Rattle.linesize.specs.CrossSize.{items}
 use Rattle.container.specs.Columns.{crossItems}
 use Rattle.passchecks.proofs.Taken.{number-inside, code-inside, items-are}
 use Rattle.crossstage.proofs.CrossLaws.{sizes-ready-as, sizes-as}
@@ -11,7 +11,7 @@ use Rattle.crossstage.proofs.size_lines.Statement.{statement}
 use Rattle.crossstage.proofs.size_lines.Tie as tie
 use Rattle.crossstage.proofs.size_lines.Reads as reads
 use Rattle.crossstage.proofs.size_lines.Lts as lts
-use Rattle.bylines.proofs.cross_size.cross_sizes.Reads as cross-sizes-reads
+use Rattle.sizelines.proofs.cross_sizes.Reads as cross-sizes-reads
 use Rattle.container.proofs.columns.code_column.Reads as code-column-reads
 use Rattle.container.proofs.columns.column.Reads as column-reads
 use Rattle.crossstage.proofs.cross_axis.Reads as cross-axis-reads

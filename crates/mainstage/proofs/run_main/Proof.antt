@@ -9,7 +9,7 @@ use Rattle.mainstage.proofs.run_main.Tie as tie
 use Rattle.mainstage.proofs.run_main.Reads as reads
 use Rattle.mainstage.proofs.run_main.Lts as lts
 use Rattle.align.proofs.content_of.Reads as content-of-reads
-use Rattle.bylines.proofs.main_axis.main_by_line.Reads as main-by-line-reads
+use Rattle.mainlines.proofs.main_by_line.Reads as main-by-line-reads
 use Rattle.container.proofs.columns.code_column.Reads as code-column-reads
 use Rattle.container.proofs.columns.column.Reads as column-reads
 use Rattle.flexcalls.proofs.by_line.flex_all.Reads as flex-all-reads

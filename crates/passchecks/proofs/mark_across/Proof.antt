@@ -3,7 +3,7 @@ use mathlib.Core.Path.{_≡_, sym, ap, _∙_}
 use native.Mathlib.Omega.{arith}
 use denote.Ref.{now}
 use lib.ListN.{length}
-use Rattle.crossaxis.specs.CrossSize.{items}
+use Rattle.linesize.specs.CrossSize.{items}
 use Rattle.container.specs.Columns.{crossItems}
 use Rattle.passchecks.proofs.Taken.{number-inside, code-inside, number-length, sorted-cross, items-are}
 use Rattle.passchecks.proofs.PassMarks.{sorted-as, across-as}
@@ -11,7 +11,7 @@ use Rattle.passchecks.proofs.mark_across.Statement.{statement}
 use Rattle.passchecks.proofs.mark_across.Tie as tie
 use Rattle.passchecks.proofs.mark_across.Reads as reads
 use Rattle.passchecks.proofs.mark_across.Lts as lts
-use Rattle.crossaxis.proofs.marks.mark_across.Reads as mark-across-reads
+use Rattle.crosschecks.proofs.marks.mark_across.Reads as mark-across-reads
 use Rattle.container.proofs.columns.code_column.Reads as code-column-reads
 use Rattle.container.proofs.columns.column.Reads as column-reads
 

@@ -1,15 +1,15 @@
 -- Number by number. Assumes nothing.
 use mathlib.Core.Path.{ap, _∙_}
 use Rattle.refusal.specs.Marks.{leastOf}
-use Rattle.crossaxis.specs.Numbers.{crossNumbers}
-use Rattle.crossaxis.specs.declared.numbers.CrossNumbers.{CrossNumbers}
+use Rattle.crosschecks.specs.Numbers.{crossNumbers}
+use Rattle.crosschecks.specs.declared.numbers.CrossNumbers.{CrossNumbers}
 use borrow.Author.Needs.{needs}
 use Rattle.passchecks.proofs.PassMarks.{container-marks}
 use Rattle.passchecks.proofs.mark_container.Statement.{statement}
 use Rattle.passchecks.proofs.mark_container.Tie as tie
 use Rattle.passchecks.proofs.mark_container.Reads as reads
 use Rattle.passchecks.proofs.mark_container.Lts as lts
-use Rattle.crossaxis.proofs.numbers.mark_cross.Reads as mark-cross-reads
+use Rattle.crosschecks.proofs.numbers.mark_cross.Reads as mark-cross-reads
 use Rattle.passchecks.proofs.cross_numbers.Reads as cross-numbers-reads
 use Rattle.refusal.proofs.least.Reads as least-reads
 use Rattle.refusal.proofs.mark_code.Reads as mark-code-reads

@@ -1,6 +1,6 @@
 -- `placeexports::fratolivem_line_size` meets its contract: the call inside answers. Assumes nothing.
 use denote.Ref.{now}
-use Rattle.crossaxis.specs.CrossSize.{items}
+use Rattle.linesize.specs.CrossSize.{items}
 use Rattle.placeexports.proofs.Told.{size-told}
 use borrow.Author.Needs.{needs}
 use Rattle.placeexports.proofs.fratolivem_line_size.Statement.{statement}

@@ -1,6 +1,6 @@
 -- `placeexports::fratolivem_place_across` meets its contract: the call inside answers and writes. Assumes nothing.
 use denote.Ref.{now}
-use Rattle.crossaxis.specs.CrossSize.{items}
+use Rattle.linesize.specs.CrossSize.{items}
 use Rattle.placeexports.proofs.Told.{across-told}
 use borrow.Author.Needs.{needs}
 use Rattle.placeexports.proofs.fratolivem_place_across.Statement.{statement}

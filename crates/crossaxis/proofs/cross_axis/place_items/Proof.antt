@@ -4,7 +4,7 @@ use Prim.Native.Nat.{_-_}
 use native.Mathlib.Omega.{arith}
 use lib.ListN.{length}
 use denote.Ref.{now}
-use Rattle.crossaxis.specs.CrossSize.{items, yes}
+use Rattle.linesize.specs.CrossSize.{items, yes}
 use Rattle.crossaxis.specs.CrossAxis.{placedAt}
 use Rattle.align.proofs.Each.{written-all}
 use Rattle.crossaxis.proofs.AcrossLaws.{Writing, placed-same, writing-none, writing-long, writing-turn}

@@ -1,7 +1,7 @@
 -- `crossaxis::lines::align_lines` meets its contract: the steps of the definition, one after the other. Assumes nothing.
 use mathlib.Core.Path.{_≡_, subst, _∙_}
 use denote.Ref.{now}
-use Rattle.crossaxis.specs.declared.container.Cross.{Cross}
+use Rattle.linesize.specs.declared.container.Cross.{Cross}
 use Rattle.crossaxis.specs.Lines.{Along}
 use Rattle.crossaxis.proofs.LineLaws.{along}
 use borrow.Author.Needs.{needs}

@@ -1,6 +1,6 @@
 -- `crosscalls::across_call::check_across_numbers` meets its contract: the least mark of its parts. Assumes nothing.
 use denote.Ref.{now}
-use Rattle.crossaxis.specs.CrossSize.{Items, items}
+use Rattle.linesize.specs.CrossSize.{Items, items}
 use Rattle.crosscalls.proofs.AcrossCalled.{across-checked}
 use borrow.Author.Needs.{needs}
 use Rattle.crosscalls.proofs.across_call.check_across_numbers.Statement.{statement}

@@ -1,6 +1,6 @@
 -- `crosscalls::across_call::place_across` meets its contract: the checks refuse, or the items are placed. Assumes nothing.
 use denote.Ref.{now}
-use Rattle.crossaxis.specs.CrossSize.{Items, items}
+use Rattle.linesize.specs.CrossSize.{Items, items}
 use Rattle.crosscalls.proofs.AcrossCalled.{across-sorted, across-shape-refused, across-numbers-refused, across-placed}
 use borrow.Author.Needs.{needs}
 use Rattle.crosscalls.proofs.across_call.place_across.Statement.{statement}

@@ -1,6 +1,6 @@
 -- `crosscalls::size_call::check_size_numbers` meets its contract: the least mark of its parts. Assumes nothing.
 use denote.Ref.{now}
-use Rattle.crossaxis.specs.CrossSize.{Items, items}
+use Rattle.linesize.specs.CrossSize.{Items, items}
 use Rattle.crosscalls.proofs.SizeCalled.{size-checked}
 use borrow.Author.Needs.{needs}
 use Rattle.crosscalls.proofs.size_call.check_size_numbers.Statement.{statement}

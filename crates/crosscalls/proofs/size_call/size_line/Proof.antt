@@ -1,6 +1,6 @@
 -- `crosscalls::size_call::size_line` meets its contract: the checks refuse, or the line is sized. Assumes nothing.
 use denote.Ref.{now}
-use Rattle.crossaxis.specs.CrossSize.{Items, items}
+use Rattle.linesize.specs.CrossSize.{Items, items}
 use Rattle.crosscalls.proofs.SizeCalled.{size-even, size-shape-refused, size-numbers-refused, size-sized}
 use borrow.Author.Needs.{needs}
 use Rattle.crosscalls.proofs.size_call.size_line.Statement.{statement}

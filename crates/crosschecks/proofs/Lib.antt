@@ -1,0 +1,2 @@
+pub mod BoundMarks
+pub mod ItemMarks

@@ -1,0 +1,51 @@
+-- The cross axis in numbers: how the container's are read, and what a call checks of them and of a line's items. Assumes nothing.
+use mathlib.Core.Bool.{Bool, cond}
+use mathlib.Core.List.{List, [], _∷_, _++_}
+use Prim.Native.Nat.{ℕ}
+use lib.Dec.{eqb}
+use lib.Ieee.{Float}
+use Rattle.refusal.specs.Domain.{Number, float, code}
+use Rattle.refusal.specs.Optional.{optional}
+use Rattle.refusal.specs.Lists.{floatAt, codeAt, besideAt}
+use Rattle.refusal.specs.declared.Kind.the-variants.{Size, Margin}
+use Rattle.breaking.specs.declared.Bound.{Bound}
+use Rattle.breaking.specs.declared.Bound.the-variants.{Absent, Given}
+use Rattle.linesize.specs.declared.container.Cross.{Cross}
+use Rattle.crosschecks.specs.declared.numbers.CrossNumbers.{CrossNumbers}
+use Rattle.linesize.specs.Container.{wrapOf}
+use Rattle.linesize.specs.CrossSize.{Items}
+
+-- ---- the container
+
+-- a number under code 1; under any other it is not taken
+abbrev pub boundOf : ℕ → Float → Bound
+boundOf given x = cond (eqb given 1) (Given x) Absent
+
+unfoldable pub crossOf : CrossNumbers → Cross
+crossOf c = record { inner = boundOf (c .definite) (c .inner); minimum = boundOf (c .floored) (c .minimum); maximum = boundOf (c .capped) (c .maximum); gap = c .gap; wrap = wrapOf (c .wrap) }
+
+-- the code, and the number where it is given
+abbrev pub boundNumbers : ℕ → Float → List Number
+boundNumbers given x = code 1 given ∷ optional (eqb given 1) (float Size x)
+
+-- the inner size, its bounds, and the rest
+abbrev pub boundsNumbers : CrossNumbers → List Number → List Number
+boundsNumbers c rest = boundNumbers (c .definite) (c .inner) ++ (boundNumbers (c .floored) (c .minimum) ++ (boundNumbers (c .capped) (c .maximum) ++ rest))
+
+-- what lines along the cross axis turn on
+abbrev pub crossNumbers : CrossNumbers → List Number
+crossNumbers c = boundsNumbers c (float Size (c .gap) ∷ code 4 (c .wrap) ∷ [])
+
+-- what the size of one line turns on: no gap
+abbrev pub sizingNumbers : CrossNumbers → List Number
+sizingNumbers c = boundsNumbers c (code 4 (c .wrap) ∷ [])
+
+-- ---- the items of a line
+
+-- item i: measured size, minimum, padding plus border, the maximum where there is one, and the margins that are not auto
+abbrev pub crossNumbersAt : Items → ℕ → List Number
+crossNumbersAt ls i = floatAt Size (ls .measured) i ++ (floatAt Size (ls .minimum) i ++ (floatAt Size (ls .edges) i ++ (besideAt Size 1 (ls .maximum) (ls .capped) i ++ (besideAt Margin 0 (ls .start) (ls .auto-start) i ++ besideAt Margin 0 (ls .end) (ls .auto-end) i))))
+
+-- and the codes of `align-self`, and of an auto cross size
+abbrev pub acrossNumbersAt : Items → List ℕ → List ℕ → ℕ → List Number
+acrossNumbersAt ls alignment auto-size i = crossNumbersAt ls i ++ (codeAt 10 alignment i ++ codeAt 1 auto-size i)

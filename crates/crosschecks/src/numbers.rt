@@ -1,0 +1,85 @@
+// The container's cross axis in numbers, on any bits.
+ghost use mathlib.Core.Path.{_≡_};
+ghost use mathlib.Core.List.{List};
+ghost use Rattle.refusal.specs.Domain.{Number};
+ghost use Rattle.refusal.specs.Marks.{leastOf};
+ghost use Rattle.crosschecks.specs.Numbers.{boundOf, crossOf, boundNumbers, boundsNumbers, crossNumbers, sizingNumbers};
+use breaking::Bound;
+use linesize::container;
+use linesize::container::Cross;
+use refusal::Kind;
+use refusal::Mark;
+use refusal::least;
+use refusal::mark_code;
+use refusal::mark_float;
+
+// Of the codes, 1 says that the inner size is definite, or that there is a minimum, or a maximum.
+pub struct CrossNumbers {
+    pub inner: f32,
+    pub definite: u32,
+    pub minimum: f32,
+    pub floored: u32,
+    pub maximum: f32,
+    pub capped: u32,
+    pub gap: f32,
+    pub wrap: u32,
+}
+
+fn bound_of(given: u32, x: f32) -> Bound
+    ensures { λ r. ⌜ r ≡ boundOf given x ⌝ }
+{
+    if given == 1 {
+        return Bound::Given(x);
+    }
+    Bound::Absent
+}
+
+pub fn cross_of(c: CrossNumbers) -> Cross
+    ensures { λ r. ⌜ r ≡ crossOf c ⌝ }
+{
+    Cross {
+        inner: bound_of(c.definite, c.inner),
+        minimum: bound_of(c.floored, c.minimum),
+        maximum: bound_of(c.capped, c.maximum),
+        gap: c.gap,
+        wrap: container::wrap_of(c.wrap),
+    }
+}
+
+fn mark_bound(given: u32, x: f32) -> Mark
+    ensures { λ r. ⌜ r .0 ≡ leastOf (boundNumbers given x) 0 ⌝ }
+{
+    least(
+        mark_code(1, given, 0),
+        refusal::optional::mark_given(Kind::Size, x, given == 1, 0),
+    )
+}
+
+// The three bounds, before whatever else is taken.
+fn mark_bounds(c: CrossNumbers, plain: Mark) -> Mark
+    ensures { λ r. ⌜ ((rest : List Number) → plain .0 ≡ leastOf rest 0 → r .0 ≡ leastOf (boundsNumbers c rest) 0) ⌝ }
+{
+    let maximum = mark_bound(c.capped, c.maximum);
+    let minimum = mark_bound(c.floored, c.minimum);
+    least(
+        mark_bound(c.definite, c.inner),
+        least(minimum, least(maximum, plain)),
+    )
+}
+
+// What lines along the cross axis turn on.
+pub fn mark_cross(c: CrossNumbers) -> Mark
+    ensures { λ r. ⌜ r .0 ≡ leastOf (crossNumbers c) 0 ⌝ }
+{
+    mark_bounds(
+        c,
+        least(mark_float(Kind::Size, c.gap, 0), mark_code(4, c.wrap, 0)),
+    )
+}
+
+// What the size of one line turns on, which knows no gap.
+pub fn mark_sizing(c: CrossNumbers) -> Mark
+    ensures { λ r. ⌜ r .0 ≡ leastOf (sizingNumbers c) 0 ⌝ }
+{
+    mark_bounds(c, mark_code(4, c.wrap, 0))
+}

@@ -1,0 +1,68 @@
+-- Document 01, "Cross axis": the container's inner cross size, and the bounds on it. Assumes nothing.
+use mathlib.Core.Bool.{Bool, true, false}
+use mathlib.Core.List.{List, [], _∷_}
+use Prim.Native.Nat.{ℕ}
+use lib.ListN.{getD}
+use lib.Ieee.{Float}
+use Rattle.grid.specs.Grid.{cleaned}
+use Rattle.breaking.specs.declared.Bound.{Bound}
+use Rattle.breaking.specs.declared.Bound.the-variants.{Absent, Given}
+use Rattle.breaking.specs.Limit.{lowered, raisedTo}
+use Rattle.linesize.specs.declared.container.Wrap.{Wrap}
+use Rattle.linesize.specs.declared.container.Wrap.the-variants as wrap
+use Rattle.linesize.specs.declared.container.Cross.{Cross}
+
+-- ---- wrapping, by its code
+
+abbrev pub wraps : List Wrap
+wraps = wrap.NoWrap ∷ wrap.Wrap ∷ wrap.WrapReverse ∷ wrap.Balance ∷ []
+
+-- codes 0 to 3, and 4 for balance-reverse
+abbrev pub wrapOf : ℕ → Wrap
+wrapOf c = getD wraps c wrap.BalanceReverse
+
+abbrev pub isSingleLine : Wrap → Bool
+isSingleLine wrap.NoWrap = true
+isSingleLine wrap.Wrap = false
+isSingleLine wrap.WrapReverse = false
+isSingleLine wrap.Balance = false
+isSingleLine wrap.BalanceReverse = false
+
+-- a single-line container is never reversed
+abbrev pub isReversed : Wrap → Bool
+isReversed wrap.NoWrap = false
+isReversed wrap.Wrap = false
+isReversed wrap.WrapReverse = true
+isReversed wrap.Balance = false
+isReversed wrap.BalanceReverse = true
+
+-- ---- the container
+
+abbrev pub loweredTo : Bound → Float → Float
+loweredTo Absent x = x
+loweredTo (Given maximum) x = lowered x maximum
+
+-- "-0.0 reads as 0"
+abbrev pub readBound : Bound → Bound
+readBound Absent = Absent
+readBound (Given x) = Given (cleaned x)
+
+unfoldable pub readCross : Cross → Cross
+readCross c = record { inner = readBound (c .inner); minimum = readBound (c .minimum); maximum = readBound (c .maximum); gap = cleaned (c .gap); wrap = c .wrap }
+
+-- "clamped by the container's inner cross bounds": lowered to the maximum, then raised to the minimum
+unfoldable pub bounded : Cross → Float → Float
+bounded c x = raisedTo (c .minimum) (loweredTo (c .maximum) x)
+
+abbrev pub boundedBy : Cross → Bound → Bound
+boundedBy c Absent = Absent
+boundedBy c (Given x) = Given (bounded c x)
+
+-- "a given inner size, single-line or not, is clamped so first"
+abbrev pub innerSize : Cross → Bound
+innerSize c = boundedBy c (c .inner)
+
+-- the inner size where it is definite, else x clamped
+abbrev pub orBounded : Cross → Bound → Float → Float
+orBounded c Absent x = bounded c x
+orBounded c (Given inner) x = inner
