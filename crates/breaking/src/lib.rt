@@ -141,7 +141,7 @@ fn mark_space(limit: AvailableSpace) -> Mark
     ensures { λ r. ⌜ r .0 ≡ leastOf (spaceNumbers limit) 0 ⌝ }
 {
     match limit {
-        AvailableSpace::Definite(x) => refusal::mark_float(Kind::Length, x, 0),
+        AvailableSpace::Definite(x) => single::mark_float(Kind::Length, x, 0),
         AvailableSpace::MinContent => refusal::no_mark(),
         AvailableSpace::MaxContent => refusal::no_mark(),
     }
@@ -152,7 +152,7 @@ fn mark_bound(bound: Bound) -> Mark
 {
     match bound {
         Bound::Absent => refusal::no_mark(),
-        Bound::Given(x) => refusal::mark_float(Kind::Size, x, 0),
+        Bound::Given(x) => single::mark_float(Kind::Size, x, 0),
     }
 }
 
@@ -204,13 +204,13 @@ pub fn check_breaking(
     let Verdict::Passed = shape else {
         return shape;
     };
-    let container = refusal::least(mark_space(limit), refusal::mark_float(Kind::Size, gap, 0));
-    let items = refusal::mark_floats(Kind::Length, sizes);
+    let container = refusal::least(mark_space(limit), single::mark_float(Kind::Size, gap, 0));
+    let items = marking::mark_floats(Kind::Length, sizes);
     let numbers = refusal::judge(refusal::least(refusal::least(codes, container), items));
     let Verdict::Passed = numbers else {
         return numbers;
     };
-    refusal::check_sum(refusal::sum_floats(sizes, gap))
+    refusal::check_sum(marking::sum_floats(sizes, gap))
 }
 
 // The end of the line that starts at an item. The sums are exact: every one is on the grid and within 2^24 sixty-fourths.

@@ -15,11 +15,11 @@ use refusal::Kind;
 use refusal::Verdict;
 use refusal::judge;
 use refusal::least;
-use refusal::mark_code;
-use refusal::mark_float;
 use refusal::shapes::has_room;
 use refusal::shapes::is_alike;
 use refusal::shapes::longer;
+use single::mark_code;
+use single::mark_float;
 
 // Checks 1 and 2, from the lengths of the lists and of the lent ones.
 fn check_across_shape(

@@ -11,16 +11,16 @@ use crossaxis::lines;
 use crosschecks::numbers::CrossNumbers;
 use crosschecks::numbers::cross_of;
 use crosschecks::numbers::mark_cross;
+use marking::lists::mark_list;
 use refusal::Kind;
 use refusal::Refusal;
 use refusal::Verdict;
 use refusal::judge;
 use refusal::least;
-use refusal::lists::mark_list;
-use refusal::mark_code;
 use refusal::shapes::has_room;
 use refusal::shapes::is_alike;
 use refusal::shapes::longer;
+use single::mark_code;
 
 pub enum LinesAnswer {
     // The container's inner cross size.

@@ -6,12 +6,12 @@ ghost use Rattle.refusal.specs.Marks.{leastOf, leastUpTo};
 ghost use Rattle.linesize.specs.CrossSize.{items, Even};
 ghost use Rattle.crossaxis.specs.CrossAxis.{Sorted};
 ghost use Rattle.crosschecks.specs.Numbers.{crossNumbersAt, acrossNumbersAt};
+use marking::lists::mark_beside;
+use marking::lists::mark_code_list;
+use marking::lists::mark_list;
 use refusal::Kind;
 use refusal::Mark;
 use refusal::least;
-use refusal::lists::mark_beside;
-use refusal::lists::mark_code_list;
-use refusal::lists::mark_list;
 
 // What a line's size turns on.
 pub fn mark_cross_items<'a>(

@@ -10,8 +10,8 @@ use linesize::container::Cross;
 use refusal::Kind;
 use refusal::Mark;
 use refusal::least;
-use refusal::mark_code;
-use refusal::mark_float;
+use single::mark_code;
+use single::mark_float;
 
 // Of the codes, 1 says that the inner size is definite, or that there is a minimum, or a maximum.
 pub struct CrossNumbers {
@@ -51,7 +51,7 @@ fn mark_bound(given: u32, x: f32) -> Mark
 {
     least(
         mark_code(1, given, 0),
-        refusal::optional::mark_given(Kind::Size, x, given == 1, 0),
+        single::mark_given(Kind::Size, x, given == 1, 0),
     )
 }
 

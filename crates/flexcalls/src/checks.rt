@@ -10,17 +10,17 @@ ghost use Rattle.refusal.specs.Shapes.{shapeOf};
 ghost use Rattle.flexing.specs.Items.{lists};
 ghost use Rattle.flexing.specs.Accepted.{Even};
 ghost use Rattle.flexcalls.specs.Call.{plainAt, inputOf};
+use marking::lists::mark_beside;
+use marking::mark_floats;
 use refusal::Kind;
 use refusal::Mark;
 use refusal::Verdict;
 use refusal::least;
-use refusal::lists::mark_beside;
-use refusal::mark_float;
-use refusal::mark_floats;
 use refusal::no_mark;
 use refusal::shapes::has_room;
 use refusal::shapes::is_alike;
 use refusal::shapes::longer;
+use single::mark_float;
 
 // Checks 1 and 2, from the lengths of the lists and the cells for the targets.
 pub fn check_lengths(

@@ -51,9 +51,9 @@ fn mark_counts(counts: &[u32], n: usize) -> Mark
     ensures { λ r. ⌜ r .0 ≡ mark (division (now (counts .entry)) n) 0 ⌝ }
 {
     if is_division(counts, n) {
-        refusal::mark_code(0, 0, 0)
+        single::mark_code(0, 0, 0)
     } else {
-        refusal::mark_code(0, 1, 0)
+        single::mark_code(0, 1, 0)
     }
 }
 

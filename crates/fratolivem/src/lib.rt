@@ -93,18 +93,12 @@ fn mark_codes(known: u32, main: u32, row: u32, kind: u32, low: u32, high: u32) -
     ensures { λ r. ⌜ ((x y z : Float) → r .0 ≡ leastOf (askedCodes (record { known = known; main = main; row = row; kind = kind; available = x; low = low; minimum = y; high = high; maximum = z })) 0) ⌝ }
 {
     let flags = refusal::least(
-        refusal::mark_code(1, known, 0),
-        refusal::least(
-            refusal::mark_code(1, main, 0),
-            refusal::mark_code(1, row, 0),
-        ),
+        single::mark_code(1, known, 0),
+        refusal::least(single::mark_code(1, main, 0), single::mark_code(1, row, 0)),
     );
     let kinds = refusal::least(
-        refusal::mark_code(2, kind, 0),
-        refusal::least(
-            refusal::mark_code(1, low, 0),
-            refusal::mark_code(1, high, 0),
-        ),
+        single::mark_code(2, kind, 0),
+        refusal::least(single::mark_code(1, low, 0), single::mark_code(1, high, 0)),
     );
     refusal::least(flags, kinds)
 }
@@ -160,7 +154,7 @@ pub extern "C" fn fratolivem_greedy(
     let space = space_of(limit_kind, limit);
     if 2 < limit_kind {
         // No call inside knows such a kind: only the checks are run, and one of them refuses.
-        let kind = refusal::mark_code(2, limit_kind, 0);
+        let kind = single::mark_code(2, limit_kind, 0);
         let v = breaking::check_breaking(kind, space, gap, sizes, sizes.len() <= counts.len());
         return to_c(refusal::answer_of(v, 0, 0));
     }
@@ -199,7 +193,7 @@ pub extern "C" fn fratolivem_balanced_parts(
             cur.len(),
         );
         let room = balance::has_room(sizes.len(), shortest, opts.len());
-        let kind = refusal::mark_code(2, limit_kind, 0);
+        let kind = single::mark_code(2, limit_kind, 0);
         let v = breaking::check_breaking(kind, space, gap, sizes, room);
         return to_c(refusal::answer_of(v, 0, 0));
     }

@@ -9,19 +9,19 @@ ghost use Rattle.mainaxis.specs.MainAxis.{line, Even};
 ghost use Rattle.refusal.specs.Shapes.{shapeOf};
 ghost use Rattle.mainaxis.specs.MainCall.{containerNumbers, mainInput, result, mainCall};
 use crate::main_axis;
+use marking::lists::mark_beside;
+use marking::lists::mark_list;
 use refusal::Answer;
 use refusal::Kind;
 use refusal::Mark;
 use refusal::Verdict;
 use refusal::judge;
 use refusal::least;
-use refusal::lists::mark_beside;
-use refusal::lists::mark_list;
-use refusal::mark_code;
-use refusal::mark_float;
 use refusal::shapes::has_room;
 use refusal::shapes::is_alike;
 use refusal::shapes::longer;
+use single::mark_code;
+use single::mark_float;
 
 // Checks 1 and 2, from the lengths of the lists and of the lent ones.
 fn check_main_shape(

@@ -19,10 +19,10 @@ use refusal::Mark;
 use refusal::Refusal;
 use refusal::Verdict;
 use refusal::least;
-use refusal::mark_code;
-use refusal::optional::mark_given;
 use refusal::shapes::has_room;
 use refusal::shapes::is_alike;
+use single::mark_code;
+use single::mark_given;
 
 // Whether the lines are balanced, and so need cells to work in.
 pub fn is_balanced(wrap: u32) -> bool

@@ -10,7 +10,7 @@ use native.Mathlib.Omega.{arith}
 use lib.Dec.{T, ltb, leb}
 use lib.IntN.{ℤ, pos, negsuc, natAbs}
 use lib.Signed.{leZ}
-use lib.Ieee.{Float, le}
+use lib.Ieee.{Float, binary32, le, neg, ofBits}
 use lib.Ieee.Scale.{finite}
 use borrow.Author.Tests.{lt-ltb, le-ltb, ltb-true, ltb-false, leb-true, not-false}
 use Rattle.grid.specs.Grid.{Length, onGrid, sixtyFourths, within}
@@ -251,6 +251,11 @@ fine-worked {x} f = (not-false (finite x) (f .finite), T-of (within 16777216 x) 
 pub fine-code : {most c : ℕ} → Fine (code most c) → c ≤ most
 unfolding outOfRange
 fine-code {most} {c} f = ltb-false most c (f .range)
+
+-- "-0.0 reads as 0": a size may be -0.0
+pub minus-zero : inRange kind.Size (neg (ofBits binary32 0)) ≡ true
+unfolding inRange within neg ofBits le
+minus-zero = refl
 
 -- ---- a refusal on paper: its number is one of 1 to 6, with no lines and no rounds
 pub refused-paper : (why : Refusal) → let p = paper (answer.Refused why) in (1 ≤ p .number) × (p .number ≤ 6) × (p .lines ≡ 0) × (p .rounds ≡ 0)

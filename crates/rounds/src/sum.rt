@@ -30,7 +30,7 @@ pub fn outer_sum(table: &[f32; 8192], n: usize, gap: f32) -> u64
     let mut i = 0;
     while i < n {
         let it = pick(table, i);
-        total = refusal::add_outer(total, outer_units(it), g);
+        total = single::add_outer(total, outer_units(it), g);
         i += 1;
     }
     total

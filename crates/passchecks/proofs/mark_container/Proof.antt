@@ -12,8 +12,8 @@ use Rattle.passchecks.proofs.mark_container.Lts as lts
 use Rattle.crosschecks.proofs.numbers.mark_cross.Reads as mark-cross-reads
 use Rattle.passchecks.proofs.cross_numbers.Reads as cross-numbers-reads
 use Rattle.refusal.proofs.least.Reads as least-reads
-use Rattle.refusal.proofs.mark_code.Reads as mark-code-reads
-use Rattle.refusal.proofs.optional.mark_given.Reads as mark-given-reads
+use Rattle.single.proofs.mark_code.Reads as mark-code-reads
+use Rattle.single.proofs.mark_given.Reads as mark-given-reads
 
 cross-numbers-requires : tie.Need-cross-numbers-requires
 cross-numbers-requires c κs = search needs

@@ -9,10 +9,10 @@ use Rattle.flexcalls.proofs.checks.mark_numbers.Statement.{statement}
 use Rattle.flexcalls.proofs.checks.mark_numbers.Tie as tie
 use Rattle.flexcalls.proofs.checks.mark_numbers.Reads as reads
 use Rattle.flexcalls.proofs.checks.mark_numbers.Lts as lts
-use Rattle.refusal.proofs.lists.mark_beside.Reads as mark-beside-reads
+use Rattle.marking.proofs.lists.mark_beside.Reads as mark-beside-reads
 use Rattle.flexcalls.proofs.checks.mark_plain.Reads as mark-plain-reads
 use Rattle.refusal.proofs.least.Reads as least-reads
-use Rattle.refusal.proofs.mark_float.Reads as mark-float-reads
+use Rattle.single.proofs.mark_float.Reads as mark-float-reads
 
 -- the lists that the function is called with
 abbrev given : tie.Start → Lists

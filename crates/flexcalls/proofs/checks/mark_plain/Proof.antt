@@ -13,7 +13,7 @@ use Rattle.flexcalls.proofs.checks.mark_plain.Tie as tie
 use Rattle.flexcalls.proofs.checks.mark_plain.Reads as reads
 use Rattle.flexcalls.proofs.checks.mark_plain.Lts as lts
 use Rattle.refusal.proofs.least.Reads as least-reads
-use Rattle.refusal.proofs.mark_floats.Reads as mark-floats-reads
+use Rattle.marking.proofs.mark_floats.Reads as mark-floats-reads
 use Rattle.refusal.proofs.no_mark.Reads as no-mark-reads
 
 mark-floats-requires : tie.Need-mark-floats-requires

@@ -9,7 +9,7 @@ use Rattle.flexcalls.proofs.lines.mark_counts.Tie as tie
 use Rattle.flexcalls.proofs.lines.mark_counts.Reads as reads
 use Rattle.flexcalls.proofs.lines.mark_counts.Lts as lts
 use Rattle.flexcalls.proofs.lines.is_division.Reads as is-division-reads
-use Rattle.refusal.proofs.mark_code.Reads as mark-code-reads
+use Rattle.single.proofs.mark_code.Reads as mark-code-reads
 
 is-division-requires : tie.Need-is-division-requires
 is-division-requires c κs = search needs

@@ -7,7 +7,7 @@ use native.Mathlib.Omega.{arith}
 use lib.IntN.{ℤ, natAbs}
 use denote.Ref.{now}
 use Rattle.grid.proofs.to_sixtyfourths.Reads as to-sixtyfourths-reads
-use Rattle.refusal.proofs.add_outer.Reads as add-outer-reads
+use Rattle.single.proofs.add_outer.Reads as add-outer-reads
 use Rattle.flexing.specs.declared.Item.{Item}
 use Rattle.flexing.specs.Flex.{outerUnits, outerSum}
 use Rattle.flexing.specs.Items.{each}

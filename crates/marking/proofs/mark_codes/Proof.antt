@@ -1,0 +1,83 @@
+-- The least mark of a list of codes: m is that of the codes passed. Assumes nothing.
+use mathlib.Core.Path.{_≡_, sym, ap, ap₂, _∙_}
+use mathlib.Core.List.{List}
+use Prim.Native.Nat.{ℕ, _+_, _-_, _≤_, min}
+use native.Mathlib.Omega.{arith}
+use borrow.Author.Needs.{scaled-fits}
+use denote.Ref.{now}
+use lib.ListN.{length, getD}
+use Rattle.refusal.specs.Domain.{code}
+use Rattle.refusal.specs.Marks.{mark, leastUpTo}
+use Rattle.refusal.proofs.Sweep.{least-none, least-more}
+use Rattle.marking.proofs.mark_codes.Statement.{statement}
+use Rattle.marking.proofs.mark_codes.Tie as tie
+
+abbrev marks : ℕ → List ℕ → ℕ → ℕ
+marks most codes i = mark (code most (getD codes i 0)) (i + 1)
+
+abbrev Inv-loop : tie.InvT-loop
+Inv-loop most codes m₀ i₀ m i = (i ≤ length codes) × (m .0 ≡ leastUpTo (marks most codes) i)
+
+abbrev μ-loop : tie.MeasureT-loop
+μ-loop most codes m₀ i₀ m i = length codes - i
+
+no-mark-requires : tie.Need-no-mark-requires Inv-loop μ-loop
+no-mark-requires c κs = tt
+
+loop-holds : tie.Need-loop-holds Inv-loop μ-loop
+loop-holds c = let a = c .before .before .args in (omega arith, c .no-mark .ensures ∙ sym (least-none (marks (a .most) (now (a .codes)))))
+
+mul-mark-code : tie.Need-mul-mark-code Inv-loop μ-loop
+mul-mark-code c = let s = c .before .before .before .before in scaled-fits (c .before .loop .i) (length (now (s .args .codes))) 4 (c .loop-test .taken) (s .good .1 .0 .1)
+
+shared-slice-read-mark-code : tie.Need-shared-slice-read-mark-code Inv-loop μ-loop
+shared-slice-read-mark-code c = omega arith
+
+add-mark-code : tie.Need-add-mark-code Inv-loop μ-loop
+add-mark-code c = omega arith
+
+cast-mark-code : tie.Need-cast-mark-code Inv-loop μ-loop
+cast-mark-code c = omega arith
+
+mark-code-requires : tie.Need-mark-code-requires Inv-loop μ-loop
+mark-code-requires c κs = omega arith
+
+least-requires : tie.Need-least-requires Inv-loop μ-loop
+least-requires c κs = tt
+
+add-i : tie.Need-add-i Inv-loop μ-loop
+add-i c = omega arith
+
+loop-less : tie.Need-loop-less Inv-loop μ-loop
+loop-less c = omega arith
+
+loop-again : tie.Need-loop-again Inv-loop μ-loop
+loop-again c =
+    let l = c .before .before .before .before in
+    let a = l .before .before .before .args in
+    (omega arith, c .least .ensures ∙ ap₂ min (l .loop .inv .1) (c .before .mark-code .ensures) ∙ sym (least-more (marks (a .most) (now (a .codes))) (l .loop .i)))
+
+returns : tie.Need-returns Inv-loop μ-loop
+returns c =
+    let a = c .before .before .before .before .args in
+    let n : c .before .loop .i ≡ length (now (a .codes)) = omega arith in
+    c .before .loop .inv .1 ∙ ap (leastUpTo (marks (a .most) (now (a .codes)))) n
+
+pub mark-codes-spec : {M : Type 1} → statement M
+mark-codes-spec =
+    tie.close
+    (tie.spec
+    Inv-loop
+    μ-loop
+    no-mark-requires
+    loop-holds
+    mul-mark-code
+    shared-slice-read-mark-code
+    add-mark-code
+    cast-mark-code
+    mark-code-requires
+    least-requires
+    add-i
+    loop-less
+    loop-again
+    returns)

@@ -1,0 +1,31 @@
+-- The mark of a number that may be absent: where it is given, its own; else none. Assumes nothing.
+use borrow.Author.Needs.{needs}
+use mathlib.Core.Path.{_≡_, sym, ap, _∙_}
+use mathlib.Core.Bool.{Bool}
+use Prim.Native.Nat.{ℕ}
+use Rattle.refusal.specs.Domain.{float}
+use Rattle.refusal.specs.Marks.{leastOf}
+use Rattle.refusal.specs.Optional.{optional}
+use Rattle.refusal.proofs.Checks.{least-one}
+use Rattle.single.proofs.mark_given.Statement.{statement}
+use Rattle.single.proofs.mark_given.Tie as tie
+
+mark-float-requires : tie.Need-mark-float-requires
+mark-float-requires c κs = search needs
+
+no-mark-requires : tie.Need-no-mark-requires
+no-mark-requires c κs = search needs
+
+returns : tie.Need-returns
+returns c =
+    let s = c .before .before in
+    c .mark-float .ensures ∙ sym (least-one (float (s .args .kind) (s .args .x)) (s .args .place) (s .pre)) ∙ ap (λ (b : Bool). leastOf (optional b (float (s .args .kind) (s .args .x))) (s .args .place)) (sym (c .before .if1 .taken))
+
+returns-2 : tie.Need-returns-2
+unfolding leastOf
+returns-2 c =
+    let s = c .before .before in
+    c .no-mark .ensures ∙ ap (λ (b : Bool). leastOf (optional b (float (s .args .kind) (s .args .x))) (s .args .place)) (sym (c .before .if1 .left))
+
+pub mark-given-spec : {M : Type 1} → statement M
+mark-given-spec = tie.close (tie.spec mark-float-requires no-mark-requires returns returns-2)
