@@ -9,8 +9,8 @@ use lib.Seq.{take-add, take-take, take-at, drop-at, drop-nil, drop-drop, length-
 use borrow.Rule.Slice.PartMut.{midOf, putMid, postOf, same-len-mid, mid-len, take-put, drop-put}
 use Rattle.refusal.specs.Marks.{sumUpTo}
 use Rattle.refusal.proofs.Sweep.{sum-none, sum-more}
-use Rattle.flexcalls.specs.Lines.{lineStart}
-use Rattle.flexcalls.proofs.Going.{ends-before}
+use Rattle.flexlines.specs.Lines.{lineStart}
+use Rattle.flexlines.proofs.Going.{ends-before}
 use Rattle.align.specs.Lists.{overwritten, each}
 use Rattle.bylines.specs.Parts.{part, Division, Past}
 

@@ -3,7 +3,7 @@ use mathlib.Core.Path.{_≡_}
 use mathlib.Core.List.{List}
 use Prim.Native.Nat.{ℕ}
 use lib.ListN.{length, getD, take, drop}
-use Rattle.flexcalls.specs.Lines.{lineStart}
+use Rattle.flexlines.specs.Lines.{lineStart}
 
 -- line j's part of a list, by the items that each line has
 abbrev pub part : {A : Type 0} → List ℕ → ℕ → List A → List A

@@ -9,7 +9,7 @@ use lib.ListN.{length, getD}
 use lib.Ieee.{Float, nan}
 use borrow.Author.Count.{below-none, below-more}
 use borrow.Rule.Slice.PartMut.{midOf, putMid, mid-len}
-use Rattle.flexcalls.specs.Lines.{lineStart}
+use Rattle.flexlines.specs.Lines.{lineStart}
 use Rattle.linesize.specs.CrossSize.{Items, items, count}
 use Rattle.crossaxis.specs.CrossAxis.{Sorted, Room, Across}
 use Rattle.bylines.specs.Parts.{part, Division}

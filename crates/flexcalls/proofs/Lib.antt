@@ -1,6 +1,4 @@
-pub mod Marked
-pub mod Accept
+pub mod OneLine
+pub mod ManyLines
 pub mod Determined
-pub mod Going
-pub mod Division
 pub mod Independent

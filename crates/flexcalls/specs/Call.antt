@@ -1,47 +1,21 @@
--- What the call for one line takes, checks and answers (document 01, "Domain and refusal numbers" and "Flexible lengths"). Assumes nothing.
+-- What the call for one line answers (document 01, "Domain and refusal numbers" and "Flexible lengths"). Assumes nothing.
 use mathlib.Core.Path.{_≡_}
-use mathlib.Core.List.{List, [], _∷_, _++_}
+use mathlib.Core.List.{List}
 use Prim.Native.Nat.{ℕ}
-use lib.ListN.{length, getD}
+use lib.ListN.{length}
 use lib.IntN.{ℤ, pos}
-use lib.Ieee.{Float, nan}
+use lib.Ieee.{Float}
 use Rattle.grid.specs.Grid.{cleaned}
-use Rattle.refusal.specs.Domain.{Number, float, Input, checked, summed, then, Where, nowhere, refusalOf}
-use Rattle.refusal.specs.Lists.{besideAt}
-use Rattle.refusal.specs.Shapes as shapes
-use Rattle.refusal.specs.declared.Kind.the-variants.{Size, Margin, Factor}
+use Rattle.refusal.specs.Domain.{checked, summed, then, Where, nowhere, refusalOf}
 use Rattle.refusal.specs.declared.Verdict.{Verdict}
 use Rattle.refusal.specs.declared.Verdict.the-variants.{Passed}
 use Rattle.refusal.specs.declared.Verdict.the-variants as verdict
 use Rattle.flexing.specs.declared.Item.{Item}
 use Rattle.flexing.specs.Flex.{outerSum, Flexed}
-use Rattle.flexing.specs.Items.{Lists, count, itemsOf}
+use Rattle.flexing.specs.Items.{Lists, itemsOf}
+use Rattle.flexchecks.specs.Input.{shapeOf, inputOf}
 use Rattle.flexcalls.specs.declared.FlexAnswer.{FlexAnswer}
 use Rattle.flexcalls.specs.declared.FlexAnswer.the-variants.{Done, Refused}
-
--- ---- checks 1 and 2
-
-abbrev pub lengths : Lists → List ℕ
-lengths ls =
-    length (ls .base) ∷ length (ls .minimum) ∷ length (ls .maximum) ∷ length (ls .has-maximum) ∷ length (ls .edges) ∷ length (ls .grow) ∷ length (ls .shrink) ∷ length (ls .start) ∷ length (ls .end) ∷ length (ls .auto-start) ∷ length (ls .auto-end) ∷ []
-
--- the lists are of one length, and there are as many cells for the targets
-abbrev pub shapeOf : Lists → ℕ → Verdict
-shapeOf ls room = shapes.shapeOf (lengths ls) (room ∷ []) (count ls)
-
--- ---- checks 3, 4 and 5: the numbers that are taken
-
--- of item i those that are always there: base, minimum, padding plus border, grow and shrink
-abbrev pub plainAt : List Float → List Float → List Float → List Float → List Float → ℕ → List Number
-plainAt b l e g s i = float Size (getD b i nan) ∷ float Size (getD l i nan) ∷ float Size (getD e i nan) ∷ float Factor (getD g i nan) ∷ float Factor (getD s i nan) ∷ []
-
--- and the maximum and the margins, each beside its code
-abbrev pub inputOf : Float → Float → Lists → Input
-inputOf inner gap ls = record {
-  container = float Size inner ∷ float Size gap ∷ [];
-  count = count ls;
-  item = λ i. plainAt (ls .base) (ls .minimum) (ls .edges) (ls .grow) (ls .shrink) i ++ (besideAt Size 1 (ls .maximum) (ls .has-maximum) i ++ (besideAt Margin 0 (ls .start) (ls .auto-start) i ++ besideAt Margin 0 (ls .end) (ls .auto-end) i));
-}
 
 -- ---- checks 1 to 6 of a call with so much room
 

@@ -1,22 +1,18 @@
-// The calls that flex, on any bits: checks 1 to 6, and then the parts of crate `rounds` (document 01, "Flexible lengths").
-ghost use mathlib.Core.Path.{_≡_};
+// The calls that flex, on any bits: checks 1 to 6, and then the parts of crates `rounds` and `flexlines` (document 01, "Flexible lengths").
 ghost use Prim.Native.Nat.{_≤_};
 ghost use lib.ListN.{length};
 ghost use Rattle.grid.specs.Grid.{Length, cleaned};
-ghost use Rattle.refusal.specs.Domain.{summed, then};
-ghost use Rattle.refusal.specs.Marks.{leastMark, judged};
+ghost use Rattle.refusal.specs.Domain.{summed};
 ghost use Rattle.flexing.specs.Flex.{outerSum};
 ghost use Rattle.flexing.specs.Items.{lists, itemsOf};
 ghost use Rattle.rounds.specs.Cells.{itemsIn, Tabled};
-ghost use Rattle.flexcalls.specs.Call.{inputOf, shapeOf, Answered, FlexedLine};
+ghost use Rattle.flexcalls.specs.Call.{Answered, FlexedLine};
 ghost use Rattle.flexcalls.specs.Parts.{Checked};
 use refusal::Verdict;
 use rounds::flex::flex_items;
 use rounds::sum::outer_sum;
 use rounds::table::read_items;
 
-pub mod by_line;
-pub mod checks;
 pub mod lines;
 
 // What flexing a line answers: its free space before flexing, and its rounds.
@@ -91,59 +87,6 @@ fn flex_checked<'a>(
     )
 }
 
-// Checks 1 to 5.
-fn check_line<'a>(
-    inner: f32,
-    gap: f32,
-    base: &'a [f32],
-    minimum: &'a [f32],
-    maximum: &'a [f32],
-    has_maximum: &'a [u32],
-    edges: &'a [f32],
-    grow: &'a [f32],
-    shrink: &'a [f32],
-    start: &'a [f32],
-    end: &'a [f32],
-    auto_start: &'a [u32],
-    auto_end: &'a [u32],
-    room: usize,
-) -> Verdict
-    ensures { λ r. ⌜ r ≡ then (shapeOf (lists (now (base .entry)) (now (minimum .entry)) (now (maximum .entry)) (now («has_maximum» .entry)) (now (edges .entry)) (now (grow .entry)) (now (shrink .entry)) (now (start .entry)) (now (end .entry)) (now («auto_start» .entry)) (now («auto_end» .entry))) room) (judged (leastMark (inputOf inner gap (lists (now (base .entry)) (now (minimum .entry)) (now (maximum .entry)) (now («has_maximum» .entry)) (now (edges .entry)) (now (grow .entry)) (now (shrink .entry)) (now (start .entry)) (now (end .entry)) (now («auto_start» .entry)) (now («auto_end» .entry)))))) ⌝ }
-{
-    let v = checks::check_lengths(
-        base.len(),
-        minimum.len(),
-        maximum.len(),
-        has_maximum.len(),
-        edges.len(),
-        grow.len(),
-        shrink.len(),
-        start.len(),
-        end.len(),
-        auto_start.len(),
-        auto_end.len(),
-        room,
-    );
-    match v {
-        Verdict::Refused(why) => Verdict::Refused(why),
-        Verdict::Passed => refusal::judge(checks::mark_numbers(
-            inner,
-            gap,
-            base,
-            minimum,
-            maximum,
-            has_maximum,
-            edges,
-            grow,
-            shrink,
-            start,
-            end,
-            auto_start,
-            auto_end,
-        )),
-    }
-}
-
 // Flexes one line: the n items of the lists, in a container of that inner main size and gap. `has_maximum` says 1 where an item has a maximum, and
 // `auto_start` and `auto_end` 1 where its margin is auto, which counts as 0 here. The targets are written to the first n cells.
 pub fn flex_line<'a>(
@@ -164,7 +107,7 @@ pub fn flex_line<'a>(
 ) -> FlexAnswer
     ensures { λ r. ⌜ FlexedLine inner gap (lists (now (base .entry)) (now (minimum .entry)) (now (maximum .entry)) (now («has_maximum» .entry)) (now (edges .entry)) (now (grow .entry)) (now (shrink .entry)) (now (start .entry)) (now (end .entry)) (now («auto_start» .entry)) (now («auto_end» .entry))) r (now (targets .entry)) (now (targets .exit)) ⌝ }
 {
-    let v = check_line(
+    let v = flexchecks::check_line(
         inner,
         gap,
         base,

@@ -8,7 +8,7 @@ use lib.ListN.{length, getD}
 use lib.Ieee.{Float}
 use borrow.Author.Count.{below-none, below-more}
 use borrow.Rule.Slice.PartMut.{midOf, putMid, mid-len}
-use Rattle.flexcalls.specs.Lines.{lineStart}
+use Rattle.flexlines.specs.Lines.{lineStart}
 use Rattle.align.specs.declared.ContentAlignment.{ContentAlignment}
 use Rattle.mainaxis.specs.MainAxis.{Line, line, count, Even, Spaced}
 use Rattle.bylines.specs.Parts.{part, Division}

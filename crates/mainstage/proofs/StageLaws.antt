@@ -13,9 +13,9 @@ use lib.Ieee.{Float}
 use Rattle.grid.specs.Grid.{cleaned}
 use Rattle.flexing.specs.Items.{itemAt}
 use Rattle.rounds.specs.Cells.{itemIn}
-use Rattle.flexcalls.specs.Lines.{FlexedLines}
-use Rattle.flexcalls.specs.Parts.{Lined}
-use Rattle.flexcalls.proofs.Division.{lines-as}
+use Rattle.flexlines.specs.Lines.{FlexedLines}
+use Rattle.flexlines.specs.Parts.{Lined}
+use Rattle.flexlines.proofs.Going.{lines-as}
 use Rattle.align.specs.declared.ContentAlignment.{ContentAlignment}
 use Rattle.align.specs.Align.{nought, contentOf}
 use Rattle.mainaxis.specs.MainAxis.{Line, line}

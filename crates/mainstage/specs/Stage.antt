@@ -9,8 +9,8 @@ use lib.Ieee.{Float}
 use Rattle.grid.specs.Grid.{cleaned}
 use Rattle.flexing.specs.Items.{itemAt}
 use Rattle.rounds.specs.Cells.{Held}
-use Rattle.flexcalls.specs.Lines.{FlexedLines}
-use Rattle.flexcalls.specs.Parts.{Lined}
+use Rattle.flexlines.specs.Lines.{FlexedLines}
+use Rattle.flexlines.specs.Parts.{Lined}
 use Rattle.align.specs.Align.{nought, contentOf}
 use Rattle.mainaxis.specs.MainAxis.{Line, line}
 use Rattle.mainlines.specs.Main.{MainLines}

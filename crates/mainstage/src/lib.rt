@@ -9,7 +9,7 @@ use container::Container;
 use container::columns::code_column;
 use container::columns::column;
 use container::columns::store_four;
-use flexcalls::by_line::flex_all;
+use flexlines::flex_all;
 use mainlines::main_by_line;
 
 // Whether items are walked from the last one.

@@ -27,8 +27,8 @@ use Rattle.flexing.specs.Flex.{outerSum}
 use Rattle.flexing.specs.Items.{itemsOf}
 use Rattle.rounds.specs.Cells.{itemsIn, Tabled, Held}
 use Rattle.rounds.proofs.Columns.{tabled-of, items-are}
-use Rattle.flexcalls.specs.Call.{inputOf}
-use Rattle.flexcalls.proofs.Accept.{inner-length, gap-length, measured-of, refused-then, passed-then}
+use Rattle.flexchecks.specs.Input.{inputOf}
+use Rattle.flexchecks.proofs.Accept.{inner-length, gap-length, measured-of, refused-then, passed-then}
 use Rattle.wrapping.specs.declared.Mode.the-variants.{Single, Greedy, Balanced}
 use Rattle.wrapping.specs.Wrapping as wrapping
 use Rattle.wrapping.proofs.Given.{table-breakable}

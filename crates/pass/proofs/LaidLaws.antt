@@ -13,7 +13,7 @@ use Rattle.breaking.specs.Calls.{written}
 use Rattle.flexing.specs.declared.Item.{Item}
 use Rattle.flexing.specs.Items.{itemAt, itemsOf}
 use Rattle.rounds.specs.Cells.{itemsIn}
-use Rattle.flexcalls.specs.Lines.{FlexedLines}
+use Rattle.flexlines.specs.Lines.{FlexedLines}
 use Rattle.align.specs.Align.{nought, contentOf}
 use Rattle.mainlines.specs.Main.{MainLines}
 use Rattle.wrapping.specs.declared.Mode.{Mode}

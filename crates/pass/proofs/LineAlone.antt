@@ -1,40 +1,21 @@
 -- "In accepted runs a line's targets, rounds and main offsets depend only on the container, the line ranges and its own items": two runs in one container
 -- that agree on a line's items, and on nothing else, say the same of it. By the same of flexing and of the main axis. Assumes nothing.
-use mathlib.Core.Path.{_≡_, refl, sym, ap, _∙_}
-use mathlib.Core.List.{List, []}
+use mathlib.Core.Path.{_≡_, sym, ap, _∙_}
+use mathlib.Core.List.{List}
 use Prim.Native.Nat.{ℕ, _+_, _<_}
 use native.Mathlib.Omega.{arith}
 use lib.ListN.{length, getD, take, drop}
 use lib.Seq.{getD-take, getD-drop}
-use lib.IntN.{ℤ, pos}
 use lib.Ieee.{Float, nan}
-use Rattle.grid.specs.Grid.{cleaned}
-use Rattle.flexing.specs.declared.Item.{Item}
 use Rattle.flexing.specs.Items.{each, itemAt}
 use Rattle.rounds.proofs.Each.{each-ext}
-use Rattle.flexing.proofs.Determined.{same-answer}
-use Rattle.flexcalls.specs.Lines.{lineStart, lineItems, lineCells, FlexedLines}
-use Rattle.flexcalls.proofs.Going.{flexed-as}
+use Rattle.flexlines.specs.Lines.{lineStart, lineItems}
+use Rattle.flexlines.proofs.Alone.{SameFlexed, flexed-alone}
 use Rattle.bylines.specs.Parts.{part}
 use Rattle.mainlines.proofs.Spacing.{same-line, main-independent}
 use Rattle.container.specs.declared.Container.{Container}
 use Rattle.container.specs.Columns.{column, mainLists}
 use Rattle.pass.specs.Pass.{Lent, Laid}
-
--- ---- flexing
-
-pub record SameFlexed (counts counts' : List ℕ) (j j' : ℕ) (targets targets' : List Float) (free free' : List ℤ) (rounds rounds' : List ℕ) : Type 0 where
-  pub free-same : getD free j (pos 0) ≡ getD free' j' (pos 0)
-  pub rounds-same : getD rounds j 0 ≡ getD rounds' j' 0
-  pub targets-same : part counts j targets ≡ part counts' j' targets'
-
-pub flexed-alone : {inner gap : Float} {item item' : ℕ → Item} {n n' : ℕ} {counts counts' : List ℕ} {sum sum' : ℕ} {t₀ t t₀' t' : List Float} {f₀ f f₀' f' : List ℤ} {r₀ r r₀' r' : List ℕ}
-    → FlexedLines inner gap item n counts sum t₀ f₀ r₀ t f r → FlexedLines inner gap item' n' counts' sum' t₀' f₀' r₀' t' f' r'
-    → (j j' : ℕ) → j < length counts → j' < length counts' → lineItems item counts j ≡ lineItems item' counts' j' → SameFlexed counts counts' j j' t t' f f' r r'
-flexed-alone {inner} {gap} {item' = item'} {counts' = counts'} p q j j' h h' e =
-    let a = flexed-as inner gap _ _ _ _ _ _ [] [] _ _ e refl refl refl refl (p .line j h) in
-    let s = same-answer inner gap (lineItems item' counts' j') [] a (q .line j' h') in
-    record { free-same = s .0; rounds-same = s .1; targets-same = s .2 }
 
 -- ---- a line's own items
 

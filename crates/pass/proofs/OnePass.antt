@@ -1,28 +1,22 @@
 -- The contract of the pass leaves no choice: any two results that it allows are equal, by the same of each stage in turn. Assumes nothing.
 use mathlib.Core.Path.{_≡_, refl, sym, ap, ap₂, _∙_, subst}
-use mathlib.Core.Logic.{_⊎_, inl, inr}
-use mathlib.Core.Bool.{Bool, true, false}
-use mathlib.Core.List.{List, [], _∷_, _++_, map}
-use Prim.Native.Nat.{ℕ, zero, suc, _+_, _*_, _≤_, _<_}
+use mathlib.Core.Bool.{Bool}
+use mathlib.Core.List.{List, [], _∷_, _++_}
+use Prim.Native.Nat.{ℕ, zero, suc, _*_, _≤_, _<_}
 use native.Mathlib.Nat.{le-trans, le-of-eq, zero-mul, suc-mul}
 use native.Mathlib.Omega.{arith}
-use lib.Dec.{ltb}
-use lib.ListN.{length, getD, take, drop, take-append-drop, length-map}
-use lib.Seq.{ext-getD, take-add}
-use lib.IntN.{ℤ, pos}
+use lib.ListN.{length, take, take-append-drop, length-map}
+use lib.Seq.{take-add}
+use lib.IntN.{ℤ}
 use lib.Ieee.{Float}
-use borrow.Author.Tests.{ltb-true, ltb-false}
 use Rattle.grid.specs.Grid.{cleaned}
 use Rattle.refusal.specs.Domain.{checked, shape, summed}
-use Rattle.refusal.specs.declared.Refusal.{Refusal}
-use Rattle.refusal.specs.declared.Verdict.{Verdict}
 use Rattle.refusal.specs.declared.Verdict.the-variants as verdict
 use Rattle.refusal.proofs.Checks.{then-passed}
-use Rattle.flexing.specs.declared.Item.{Item}
 use Rattle.flexing.specs.Items.{itemAt, itemsOf}
 use Rattle.rounds.proofs.Each.{length-each}
-use Rattle.flexcalls.specs.Lines.{Beyond, FlexedLines}
-use Rattle.flexcalls.proofs.Going.{sum-ext}
+use Rattle.flexlines.specs.Lines.{FlexedLines}
+use Rattle.flexlines.proofs.Alone.{OneFlexed, one-flexed}
 use Rattle.wrapping.specs.Wrapping as wrapping
 use Rattle.wrapping.specs.Outer.{outerSizes}
 use Rattle.wrapping.proofs.Division.{no-choice}
@@ -33,7 +27,6 @@ use Rattle.bylines.specs.Parts.{Division, Past}
 use Rattle.mainlines.specs.Main.{MainLines}
 use Rattle.sizelines.specs.Sizes.{crossSizes}
 use Rattle.crosslines.specs.Cross.{AcrossLines}
-use Rattle.bylines.proofs.Parted.{same-parts}
 use Rattle.mainlines.proofs.Spacing as spacing
 use Rattle.crosslines.proofs.Placing as placing
 use Rattle.container.specs.declared.Container.{Container}
@@ -43,29 +36,13 @@ use Rattle.container.specs.Stages.{Listed}
 use Rattle.container.proofs.ColumnLaws.{before, length-column}
 use Rattle.passchecks.specs.Checks.{passInput, passSum, passRoom, passVerdict}
 use Rattle.passchecks.proofs.Taken.{number-length}
-use Rattle.passchecks.proofs.Rooms.{Roomy, roomy-of}
+use Rattle.passchecks.proofs.Rooms.{roomy-of}
 use Rattle.pass.specs.declared.PassAnswer.{PassAnswer}
 use Rattle.pass.specs.declared.PassAnswer.the-variants.{Done, Refused}
-use Rattle.pass.specs.Pass.{Lent, lent, zeros, modeOf, mainItems, crossAxis, Laid, verdictOf, Passed}
+use Rattle.pass.specs.Pass.{Lent, lent, zeros, modeOf, mainItems, crossAxis, Laid, Passed}
 use Rattle.pass.proofs.LaidLaws.{wrapped-divides}
-use Rattle.pass.proofs.LineAlone.{SameFlexed, flexed-alone}
 
--- ---- lists by line, and lists of lists
-
-split : (j k : ℕ) → (j < k) ⊎ (k ≤ j)
-split j k = go (ltb j k) refl
-  where
-    go : (b : Bool) → ltb j k ≡ b → (j < k) ⊎ (k ≤ j)
-    go true e = inl (ltb-true j k e)
-    go false e = inr (ltb-false j k e)
-
-by-line : {A : Type 0} (none : A) (k n : ℕ) (old a b : List A) → Beyond none k n old a → Beyond none k n old b → ((j : ℕ) → j < k → getD a j none ≡ getD b j none) → a ≡ b
-by-line none k n old a b p q h = ext-getD none a b (p .long ∙ sym (q .long)) (λ j l. below j (split j k) (split j n))
-  where
-    below : (j : ℕ) → (j < k) ⊎ (k ≤ j) → (j < n) ⊎ (n ≤ j) → getD a j none ≡ getD b j none
-    below j (inl l) m = h j l
-    below j (inr l) (inl m) = p .zeros j l m ∙ sym (q .zeros j l m)
-    below j (inr l) (inr m) = p .kept j m ∙ sym (q .kept j m)
+-- ---- lists of lists
 
 -- lists of n cells one after another that are the same
 fronts : (n m : ℕ) (a b : List Float) → ((j : ℕ) → j < m → column n j a ≡ column n j b) → take (m * n) a ≡ take (m * n) b
@@ -82,25 +59,6 @@ fronts n (suc m) a b h =
 
 by-columns : (n m : ℕ) (old a b : List Float) → Past (m * n) old a → Past (m * n) old b → ((j : ℕ) → j < m → column n j a ≡ column n j b) → a ≡ b
 by-columns n m old a b p q h = sym (take-append-drop (m * n) a) ∙ ap₂ (λ (y z : List Float). y ++ z) (fronts n m a b h) (p .rest ∙ sym (q .rest)) ∙ take-append-drop (m * n) b
-
--- ---- flexing
-
-record OneFlexed (sum sum' : ℕ) (t t' : List Float) (f f' : List ℤ) (r r' : List ℕ) : Type 0 where
-  sums : sum ≡ sum'
-  targets : t ≡ t'
-  free : f ≡ f'
-  rounds : r ≡ r'
-
-module _ {inner gap : Float} {item : ℕ → Item} {n : ℕ} (counts : List ℕ) {t₀ : List Float} {f₀ : List ℤ} {r₀ : List ℕ} where
-  one-flexed : {sum sum' : ℕ} {t t' : List Float} {f f' : List ℤ} {r r' : List ℕ} → Division counts n → FlexedLines inner gap item n counts sum t₀ f₀ r₀ t f r → FlexedLines inner gap item n counts sum' t₀ f₀ r₀ t' f' r' → OneFlexed sum sum' t t' f f' r r'
-  one-flexed {sum} {sum'} {t} {t'} {f} {f'} {r} {r'} d p q =
-      let same : (j : ℕ) → j < length counts → SameFlexed counts counts j j t t' f f' r r' = λ j h. flexed-alone p q j j h h refl in
-      record {
-        sums = p .sum-is ∙ sum-ext (λ j. getD r j 0) (λ j. getD r' j 0) (length counts) (λ j h. same j h .rounds-same) ∙ sym (q .sum-is);
-        targets = same-parts counts t₀ t t' d (record { long = p .long; rest = p .past }) (record { long = q .long; rest = q .past }) (λ j h. same j h .targets-same);
-        free = by-line (pos 0) (length counts) n f₀ f f' (p .free-past) (q .free-past) (λ j h. same j h .free-same);
-        rounds = by-line 0 (length counts) n r₀ r r' (p .rounds-past) (q .rounds-past) (λ j h. same j h .rounds-same);
-      }
 
 -- ---- an accepted run
 

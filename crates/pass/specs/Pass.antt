@@ -11,7 +11,7 @@ use Rattle.grid.specs.Grid.{cleaned}
 use Rattle.refusal.specs.declared.Verdict.{Verdict}
 use Rattle.refusal.specs.declared.Verdict.the-variants as verdict
 use Rattle.flexing.specs.Items.{itemAt, itemsOf}
-use Rattle.flexcalls.specs.Lines.{FlexedLines}
+use Rattle.flexlines.specs.Lines.{FlexedLines}
 use Rattle.wrapping.specs.declared.Mode.{Mode}
 use Rattle.wrapping.specs.declared.Mode.the-variants.{Single, Greedy, Balanced}
 use Rattle.wrapping.specs.Wrapping as wrapping

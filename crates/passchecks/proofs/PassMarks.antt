@@ -12,7 +12,7 @@ use Rattle.refusal.specs.Marks.{mark, leastOf, leastUpTo, leastMark}
 use Rattle.refusal.specs.declared.Kind.the-variants.{Length}
 use Rattle.refusal.proofs.Checks.{least-append}
 use Rattle.refusal.proofs.Marked.{items-append}
-use Rattle.flexcalls.specs.Call.{inputOf}
+use Rattle.flexchecks.specs.Input.{inputOf}
 use Rattle.linesize.specs.CrossSize.{Items}
 use Rattle.crossaxis.specs.CrossAxis.{Sorted}
 use Rattle.crosschecks.specs.Numbers.{crossNumbers, acrossNumbersAt}

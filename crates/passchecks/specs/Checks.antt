@@ -13,7 +13,7 @@ use Rattle.refusal.specs.Optional.{optional}
 use Rattle.refusal.specs.declared.Kind.the-variants.{Length}
 use Rattle.flexing.specs.Flex.{outerSum}
 use Rattle.flexing.specs.Items.{itemsOf}
-use Rattle.flexcalls.specs.Call.{inputOf}
+use Rattle.flexchecks.specs.Input.{inputOf}
 use Rattle.crosschecks.specs.Numbers.{crossNumbers, acrossNumbersAt}
 use Rattle.container.specs.declared.Container.{Container}
 use Rattle.container.specs.Columns.{mainLists, crossItems, alignSelf, autoSize}

@@ -4,7 +4,7 @@ ghost use Prim.Native.Nat.{_+_, _*_, _≤_};
 ghost use lib.ListN.{length};
 ghost use Rattle.refusal.specs.Domain.{shape, then};
 ghost use Rattle.refusal.specs.Marks.{leastOf, leastUpTo, leastMark, judged};
-ghost use Rattle.flexcalls.specs.Call.{inputOf};
+ghost use Rattle.flexchecks.specs.Input.{inputOf};
 ghost use Rattle.crosschecks.specs.Numbers.{acrossNumbersAt};
 ghost use Rattle.container.specs.Columns.{mainLists, crossItems, alignSelf, autoSize};
 ghost use Rattle.container.specs.Container.{balances, crossNumbersOf};
@@ -75,7 +75,7 @@ fn mark_main<'a>(inner: f32, gap: f32, n: usize, numbers: &'a [f32], codes: &'a 
     requires { ⌜ Listed n (now numbers) (now codes) ⌝ }
     ensures { λ r. ⌜ r .0 ≡ leastMark (inputOf inner gap (mainLists n (now (numbers .entry)) (now (codes .entry)))) ⌝ }
 {
-    flexcalls::checks::mark_numbers(
+    flexchecks::mark_numbers(
         inner,
         gap,
         column(numbers, n, 0),

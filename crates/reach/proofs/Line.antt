@@ -28,8 +28,9 @@ use Rattle.flexing.specs.Flex.{Cell, after, round, begun, first, grows, lineOf,
 use Rattle.flexing.specs.Items.{Lists, count, each, itemAt, itemsOf}
 use Rattle.rounds.proofs.Each.{length-each}
 use Rattle.flexcalls.specs.declared.FlexAnswer.the-variants.{Done}
-use Rattle.flexcalls.specs.Call.{shapeOf, plainAt, inputOf, lineVerdict, FlexedLine}
-use Rattle.flexcalls.proofs.Accept.{even-of}
+use Rattle.flexchecks.specs.Input.{shapeOf, plainAt, inputOf}
+use Rattle.flexcalls.specs.Call.{lineVerdict, FlexedLine}
+use Rattle.flexchecks.proofs.Accept.{even-of}
 use Rattle.reach.specs.Reach.{IsSize, IsMargin, IsFactor, IsItem, IsLine, Each, HandedOn}
 use Rattle.reach.proofs.Reach.{reach}
 

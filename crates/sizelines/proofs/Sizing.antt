@@ -9,7 +9,7 @@ use lib.ListN.{length, getD, set, take, drop}
 use lib.Seq.{take-at, getD-at}
 use lib.Ieee.{Float}
 use borrow.Rule.Slice.PartMut.{midOf, mid-len}
-use Rattle.flexcalls.specs.Lines.{lineStart}
+use Rattle.flexlines.specs.Lines.{lineStart}
 use Rattle.linesize.specs.declared.container.Cross.{Cross}
 use Rattle.align.specs.Lists.{each, overwritten}
 use Rattle.linesize.specs.CrossSize.{Items, items, count, Even, lineOf}

@@ -4,7 +4,8 @@ use lib.Ieee.{Float}
 use denote.Ref.{now}
 use Rattle.grid.specs.Grid.{Length}
 use Rattle.flexing.specs.Items.{Lists, lists}
-use Rattle.flexcalls.proofs.Accept.{inner-length, gap-length, measured-of, answered-as}
+use Rattle.flexchecks.proofs.Accept.{inner-length, gap-length, measured-of}
+use Rattle.flexcalls.proofs.OneLine.{answered-as}
 use Rattle.rounds.proofs.Columns.{tabled-of, items-are}
 use borrow.Author.Needs.{needs}
 use Rattle.flexcalls.proofs.flex_checked.Statement.{statement}

@@ -12,7 +12,7 @@ use Rattle.align.proofs.content_of.Reads as content-of-reads
 use Rattle.mainlines.proofs.main_by_line.Reads as main-by-line-reads
 use Rattle.container.proofs.columns.code_column.Reads as code-column-reads
 use Rattle.container.proofs.columns.column.Reads as column-reads
-use Rattle.flexcalls.proofs.by_line.flex_all.Reads as flex-all-reads
+use Rattle.flexlines.proofs.flex_all.Reads as flex-all-reads
 use Rattle.grid.proofs.clean.Reads as clean-reads
 use Rattle.mainstage.proofs.is_reversed.Reads as is-reversed-reads
 

@@ -5,14 +5,14 @@ use denote.Ref.{now}
 use Rattle.refusal.specs.Marks.{leastMark}
 use Rattle.flexing.specs.Items.{Lists, lists}
 use Rattle.flexing.specs.Accepted.{Even}
-use Rattle.flexcalls.specs.Call.{inputOf}
+use Rattle.flexchecks.specs.Input.{inputOf}
 use Rattle.container.specs.Columns.{mainLists}
 use Rattle.passchecks.proofs.Taken.{number-inside, code-inside, even-main, lists-are}
 use Rattle.passchecks.proofs.mark_main.Statement.{statement}
 use Rattle.passchecks.proofs.mark_main.Tie as tie
 use Rattle.passchecks.proofs.mark_main.Reads as reads
 use Rattle.passchecks.proofs.mark_main.Lts as lts
-use Rattle.flexcalls.proofs.checks.mark_numbers.Reads as mark-numbers-reads
+use Rattle.flexchecks.proofs.mark_numbers.Reads as mark-numbers-reads
 use Rattle.container.proofs.columns.code_column.Reads as code-column-reads
 use Rattle.container.proofs.columns.column.Reads as column-reads
 

@@ -8,14 +8,15 @@ use Rattle.refusal.specs.Domain.{then}
 use Rattle.refusal.specs.Marks.{leastMark, judged}
 use Rattle.refusal.specs.declared.Verdict.{Verdict}
 use Rattle.flexing.specs.Items.{Lists, lists, count, itemAt}
-use Rattle.flexcalls.specs.Lines.{linesShape, linesInput, roomOf, AnsweredLines}
-use Rattle.flexcalls.proofs.Division.{checked-lines, lines-refused, lines-passed}
+use Rattle.flexchecks.specs.Counts.{linesShape, linesInput}
+use Rattle.flexcalls.specs.Lines.{roomOf, AnsweredLines}
+use Rattle.flexcalls.proofs.ManyLines.{checked-lines, lines-refused, lines-passed}
 use borrow.Author.Needs.{needs}
 use Rattle.flexcalls.proofs.lines.flex_lines.Statement.{statement}
 use Rattle.flexcalls.proofs.lines.flex_lines.Tie as tie
 use Rattle.flexcalls.proofs.lines.flex_lines.Reads as reads
 use Rattle.flexcalls.proofs.lines.flex_lines.Lts as lts
-use Rattle.flexcalls.proofs.lines.check_lines.Reads as check-lines-reads
+use Rattle.flexchecks.proofs.lines.check_lines.Reads as check-lines-reads
 use Rattle.flexcalls.proofs.lines.flex_lines_checked.Reads as flex-lines-checked-reads
 use Rattle.flexcalls.proofs.lines.shorter.Reads as shorter-reads
 

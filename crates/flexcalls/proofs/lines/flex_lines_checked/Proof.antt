@@ -2,13 +2,13 @@
 use denote.Ref.{now}
 use Rattle.grid.specs.Grid.{cleaned}
 use Rattle.flexing.specs.Items.{Lists, lists}
-use Rattle.flexcalls.proofs.Division.{divided-of, answered-lines}
+use Rattle.flexcalls.proofs.ManyLines.{divided-of, answered-lines}
 use borrow.Author.Needs.{needs}
 use Rattle.flexcalls.proofs.lines.flex_lines_checked.Statement.{statement}
 use Rattle.flexcalls.proofs.lines.flex_lines_checked.Tie as tie
 use Rattle.flexcalls.proofs.lines.flex_lines_checked.Reads as reads
 use Rattle.flexcalls.proofs.lines.flex_lines_checked.Lts as lts
-use Rattle.flexcalls.proofs.by_line.flex_lines_read.Reads as flex-lines-read-reads
+use Rattle.flexcalls.proofs.lines.flex_lines_read.Reads as flex-lines-read-reads
 use Rattle.rounds.proofs.table.read_items.Reads as read-items-reads
 use Rattle.grid.proofs.clean.Reads as clean-reads
 

@@ -1,0 +1,3 @@
+pub mod Marked
+pub mod Accept
+pub mod Division

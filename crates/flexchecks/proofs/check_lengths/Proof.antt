@@ -1,0 +1,144 @@
+-- Checks 1 and 2: each call of a leaf is one length more of the definition. Assumes nothing.
+use mathlib.Core.Path.{ap, ap₂, _∙_}
+use mathlib.Core.Bool.{Bool, _&&_}
+use Prim.Native.Nat.{max}
+use lib.Dec.{eqb, leb}
+use Rattle.refusal.specs.Domain.{shape}
+use borrow.Author.Needs.{needs}
+use Rattle.flexchecks.proofs.check_lengths.Statement.{statement}
+use Rattle.flexchecks.proofs.check_lengths.Tie as tie
+use Rattle.flexchecks.proofs.check_lengths.Reads as reads
+use Rattle.flexchecks.proofs.check_lengths.Lts as lts
+use Rattle.refusal.proofs.shapes.has_room.Reads as has-room-reads
+use Rattle.refusal.proofs.shapes.is_alike.Reads as is-alike-reads
+use Rattle.refusal.proofs.shapes.longer.Reads as longer-reads
+use Rattle.refusal.proofs.check_shape.Reads as check-shape-reads
+
+longer-requires : tie.Need-longer-requires
+longer-requires c κs = search needs
+
+longer-requires-2 : tie.Need-longer-requires-2
+longer-requires-2 c κs = search needs
+
+longer-requires-3 : tie.Need-longer-requires-3
+longer-requires-3 c κs = search needs
+
+longer-requires-4 : tie.Need-longer-requires-4
+longer-requires-4 c κs = search needs
+
+longer-requires-5 : tie.Need-longer-requires-5
+longer-requires-5 c κs = search needs
+
+longer-requires-6 : tie.Need-longer-requires-6
+longer-requires-6 c κs = search needs
+
+longer-requires-7 : tie.Need-longer-requires-7
+longer-requires-7 c κs = search needs
+
+longer-requires-8 : tie.Need-longer-requires-8
+longer-requires-8 c κs = search needs
+
+longer-requires-9 : tie.Need-longer-requires-9
+longer-requires-9 c κs = search needs
+
+longer-requires-10 : tie.Need-longer-requires-10
+longer-requires-10 c κs = search needs
+
+longer-requires-11 : tie.Need-longer-requires-11
+longer-requires-11 c κs = search needs
+
+is-alike-requires : tie.Need-is-alike-requires
+is-alike-requires c κs = search needs
+
+is-alike-requires-2 : tie.Need-is-alike-requires-2
+is-alike-requires-2 c κs = search needs
+
+is-alike-requires-3 : tie.Need-is-alike-requires-3
+is-alike-requires-3 c κs = search needs
+
+is-alike-requires-4 : tie.Need-is-alike-requires-4
+is-alike-requires-4 c κs = search needs
+
+is-alike-requires-5 : tie.Need-is-alike-requires-5
+is-alike-requires-5 c κs = search needs
+
+is-alike-requires-6 : tie.Need-is-alike-requires-6
+is-alike-requires-6 c κs = search needs
+
+is-alike-requires-7 : tie.Need-is-alike-requires-7
+is-alike-requires-7 c κs = search needs
+
+is-alike-requires-8 : tie.Need-is-alike-requires-8
+is-alike-requires-8 c κs = search needs
+
+is-alike-requires-9 : tie.Need-is-alike-requires-9
+is-alike-requires-9 c κs = search needs
+
+is-alike-requires-10 : tie.Need-is-alike-requires-10
+is-alike-requires-10 c κs = search needs
+
+is-alike-requires-11 : tie.Need-is-alike-requires-11
+is-alike-requires-11 c κs = search needs
+
+has-room-requires : tie.Need-has-room-requires
+has-room-requires c κs = search needs
+
+check-shape-requires : tie.Need-check-shape-requires
+check-shape-requires c κs = search needs
+
+returns : tie.Need-returns
+returns c =
+    let a = c .before .before .before .before .before .before .before .before .before .before .before .before .before .before .before .before .before .before .before .before .before .before .before .before .args in
+    let m1 = c .before .before .before .before .before .before .before .before .before .before .before .before .before .before .before .before .before .before .before .before .before .before .before .longer .ensures in
+    let m2 = c .before .before .before .before .before .before .before .before .before .before .before .before .before .before .before .before .before .before .before .before .before .before .longer2 .ensures ∙ ap (max (a .auto-start)) m1 in
+    let m3 = c .before .before .before .before .before .before .before .before .before .before .before .before .before .before .before .before .before .before .before .before .before .longer3 .ensures ∙ ap (max (a .end)) m2 in
+    let m4 = c .before .before .before .before .before .before .before .before .before .before .before .before .before .before .before .before .before .before .before .before .longer4 .ensures ∙ ap (max (a .start)) m3 in
+    let m5 = c .before .before .before .before .before .before .before .before .before .before .before .before .before .before .before .before .before .before .before .longer5 .ensures ∙ ap (max (a .shrink)) m4 in
+    let m6 = c .before .before .before .before .before .before .before .before .before .before .before .before .before .before .before .before .before .before .longer6 .ensures ∙ ap (max (a .grow)) m5 in
+    let m7 = c .before .before .before .before .before .before .before .before .before .before .before .before .before .before .before .before .before .longer7 .ensures ∙ ap (max (a .edges)) m6 in
+    let m8 = c .before .before .before .before .before .before .before .before .before .before .before .before .before .before .before .before .longer8 .ensures ∙ ap (max (a .has-maximum)) m7 in
+    let m9 = c .before .before .before .before .before .before .before .before .before .before .before .before .before .before .before .longer9 .ensures ∙ ap (max (a .maximum)) m8 in
+    let m10 = c .before .before .before .before .before .before .before .before .before .before .before .before .before .before .longer10 .ensures ∙ ap (max (a .minimum)) m9 in
+    let m11 = c .before .before .before .before .before .before .before .before .before .before .before .before .before .longer11 .ensures ∙ ap (max (a .base)) m10 in
+    let q1 = c .before .before .before .before .before .before .before .before .before .before .before .before .is-alike .ensures in
+    let q2 = c .before .before .before .before .before .before .before .before .before .before .before .is-alike2 .ensures ∙ ap (λ (b : Bool). eqb (a .auto-start) (a .base) && b) q1 in
+    let q3 = c .before .before .before .before .before .before .before .before .before .before .is-alike3 .ensures ∙ ap (λ (b : Bool). eqb (a .end) (a .base) && b) q2 in
+    let q4 = c .before .before .before .before .before .before .before .before .before .is-alike4 .ensures ∙ ap (λ (b : Bool). eqb (a .start) (a .base) && b) q3 in
+    let q5 = c .before .before .before .before .before .before .before .before .is-alike5 .ensures ∙ ap (λ (b : Bool). eqb (a .shrink) (a .base) && b) q4 in
+    let q6 = c .before .before .before .before .before .before .before .is-alike6 .ensures ∙ ap (λ (b : Bool). eqb (a .grow) (a .base) && b) q5 in
+    let q7 = c .before .before .before .before .before .before .is-alike7 .ensures ∙ ap (λ (b : Bool). eqb (a .edges) (a .base) && b) q6 in
+    let q8 = c .before .before .before .before .before .is-alike8 .ensures ∙ ap (λ (b : Bool). eqb (a .has-maximum) (a .base) && b) q7 in
+    let q9 = c .before .before .before .before .is-alike9 .ensures ∙ ap (λ (b : Bool). eqb (a .maximum) (a .base) && b) q8 in
+    let q10 = c .before .before .before .is-alike10 .ensures ∙ ap (λ (b : Bool). eqb (a .minimum) (a .base) && b) q9 in
+    let q11 = c .before .before .is-alike11 .ensures ∙ ap (λ (b : Bool). eqb (a .base) (a .base) && b) q10 in
+    c .check-shape .ensures ∙ ap₂ shape m11 (c .before .has-room .ensures ∙ ap (λ (b : Bool). leb (a .base) (a .room) && b) q11)
+
+pub check-lengths-spec : {M : Type 1} → statement M
+check-lengths-spec =
+    tie.close
+    (tie.spec
+    longer-requires
+    longer-requires-2
+    longer-requires-3
+    longer-requires-4
+    longer-requires-5
+    longer-requires-6
+    longer-requires-7
+    longer-requires-8
+    longer-requires-9
+    longer-requires-10
+    longer-requires-11
+    is-alike-requires
+    is-alike-requires-2
+    is-alike-requires-3
+    is-alike-requires-4
+    is-alike-requires-5
+    is-alike-requires-6
+    is-alike-requires-7
+    is-alike-requires-8
+    is-alike-requires-9
+    is-alike-requires-10
+    is-alike-requires-11
+    has-room-requires
+    check-shape-requires
+    returns)

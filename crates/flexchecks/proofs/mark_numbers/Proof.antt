@@ -1,0 +1,77 @@
+-- The least of all marks is that of the input. Assumes nothing.
+use denote.Ref.{now}
+use Rattle.refusal.specs.Domain.{float}
+use Rattle.refusal.specs.declared.Kind.the-variants.{Size}
+use Rattle.flexing.specs.Items.{Lists, lists}
+use Rattle.flexchecks.proofs.Marked.{container-is, input-is}
+use borrow.Author.Needs.{needs}
+use Rattle.flexchecks.proofs.mark_numbers.Statement.{statement}
+use Rattle.flexchecks.proofs.mark_numbers.Tie as tie
+use Rattle.flexchecks.proofs.mark_numbers.Reads as reads
+use Rattle.flexchecks.proofs.mark_numbers.Lts as lts
+use Rattle.marking.proofs.lists.mark_beside.Reads as mark-beside-reads
+use Rattle.flexchecks.proofs.mark_plain.Reads as mark-plain-reads
+use Rattle.refusal.proofs.least.Reads as least-reads
+use Rattle.single.proofs.mark_float.Reads as mark-float-reads
+
+-- the lists that the function is called with
+abbrev given : tie.Start → Lists
+given s = lists (now (s .args .base)) (now (s .args .minimum)) (now (s .args .maximum)) (now (s .args .has-maximum)) (now (s .args .edges)) (now (s .args .grow)) (now (s .args .shrink)) (now (s .args .start)) (now (s .args .end)) (now (s .args .auto-start)) (now (s .args .auto-end))
+
+mark-float-requires : tie.Need-mark-float-requires
+mark-float-requires c κs = search needs
+
+mark-float-requires-2 : tie.Need-mark-float-requires-2
+mark-float-requires-2 c κs = search needs
+
+least-requires : tie.Need-least-requires
+least-requires c κs = search needs
+
+mark-plain-requires : tie.Need-mark-plain-requires
+mark-plain-requires c κs = search needs
+
+mark-beside-requires : tie.Need-mark-beside-requires
+mark-beside-requires c κs = search needs
+
+mark-beside-requires-2 : tie.Need-mark-beside-requires-2
+mark-beside-requires-2 c κs = search needs
+
+mark-beside-requires-3 : tie.Need-mark-beside-requires-3
+mark-beside-requires-3 c κs = search needs
+
+least-requires-2 : tie.Need-least-requires-2
+least-requires-2 c κs = search needs
+
+least-requires-3 : tie.Need-least-requires-3
+least-requires-3 c κs = search needs
+
+least-requires-4 : tie.Need-least-requires-4
+least-requires-4 c κs = search needs
+
+least-requires-5 : tie.Need-least-requires-5
+least-requires-5 c κs = search needs
+
+returns : tie.Need-returns
+returns c =
+    let s = c .before .before .before .before .before .before .before .before .before .before .before .before .before .before .before .before .before .before .before .before .before .before in
+    let f = c .before .before .before .before .before .before .before .before .before .before in
+    input-is (s .args .inner) (s .args .gap) (given s) (s .pre) (c .before .before .before .before .before .before .before .before .least .result .0) (c .before .before .before .before .before .before .before .mark-plain .result .0) (c .before .before .before .before .before .before .mark-beside .result .0) (c .before .before .before .before .before .mark-beside2 .result .0) (c .before .before .before .before .mark-beside3 .result .0) (c .before .before .before .least2 .result .0) (c .before .before .least3 .result .0) (c .before .least4 .result .0) (c .least5 .result .0)
+    (container-is (float Size (s .args .inner)) (float Size (s .args .gap)) (f .mark-float .result .0) (c .before .before .before .before .before .before .before .before .before .mark-float2 .result .0) (c .before .before .before .before .before .before .before .before .least .result .0) (f .mark-float .ensures) (c .before .before .before .before .before .before .before .before .before .mark-float2 .ensures) (c .before .before .before .before .before .before .before .before .least .ensures))
+    (c .before .before .before .before .before .before .before .mark-plain .ensures) (c .before .before .before .before .before .before .mark-beside .ensures) (c .before .before .before .before .before .mark-beside2 .ensures) (c .before .before .before .before .mark-beside3 .ensures) (c .before .before .before .least2 .ensures) (c .before .before .least3 .ensures) (c .before .least4 .ensures) (c .least5 .ensures)
+
+pub mark-numbers-spec : {M : Type 1} → statement M
+mark-numbers-spec =
+    tie.close
+    (tie.spec
+    mark-float-requires
+    mark-float-requires-2
+    least-requires
+    mark-plain-requires
+    mark-beside-requires
+    mark-beside-requires-2
+    mark-beside-requires-3
+    least-requires-2
+    least-requires-3
+    least-requires-4
+    least-requires-5
+    returns)

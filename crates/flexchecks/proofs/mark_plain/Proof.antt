@@ -1,0 +1,77 @@
+-- The marks of the numbers that every item has: each list is one number more. Assumes nothing.
+use mathlib.Core.Path.{sym, ap, _∙_}
+use mathlib.Core.List.{[], _∷_}
+use lib.ListN.{length, getD}
+use lib.Ieee.{nan}
+use denote.Ref.{now}
+use Rattle.refusal.specs.Domain.{float}
+use Rattle.refusal.specs.declared.Kind.the-variants.{Size, Factor}
+use Rattle.flexchecks.proofs.Marked.{single, several-none, several-more}
+use borrow.Author.Needs.{needs}
+use Rattle.flexchecks.proofs.mark_plain.Statement.{statement}
+use Rattle.flexchecks.proofs.mark_plain.Tie as tie
+use Rattle.flexchecks.proofs.mark_plain.Reads as reads
+use Rattle.flexchecks.proofs.mark_plain.Lts as lts
+use Rattle.refusal.proofs.least.Reads as least-reads
+use Rattle.marking.proofs.mark_floats.Reads as mark-floats-reads
+use Rattle.refusal.proofs.no_mark.Reads as no-mark-reads
+
+mark-floats-requires : tie.Need-mark-floats-requires
+mark-floats-requires c κs = search needs
+
+no-mark-requires : tie.Need-no-mark-requires
+no-mark-requires c κs = search needs
+
+least-requires : tie.Need-least-requires
+least-requires c κs = search needs
+
+mark-floats-requires-2 : tie.Need-mark-floats-requires-2
+mark-floats-requires-2 c κs = search needs
+
+least-requires-2 : tie.Need-least-requires-2
+least-requires-2 c κs = search needs
+
+mark-floats-requires-3 : tie.Need-mark-floats-requires-3
+mark-floats-requires-3 c κs = search needs
+
+least-requires-3 : tie.Need-least-requires-3
+least-requires-3 c κs = search needs
+
+mark-floats-requires-4 : tie.Need-mark-floats-requires-4
+mark-floats-requires-4 c κs = search needs
+
+least-requires-4 : tie.Need-least-requires-4
+least-requires-4 c κs = search needs
+
+mark-floats-requires-5 : tie.Need-mark-floats-requires-5
+mark-floats-requires-5 c κs = search needs
+
+least-requires-5 : tie.Need-least-requires-5
+least-requires-5 c κs = search needs
+
+returns : tie.Need-returns
+returns c =
+    let s = c .before .before .before .before .before .before .before .before .before .before .before .before .before .before .before .before in
+    let n = length (now (s .args .base)) in
+    let q = several-more (λ i. float Factor (getD (now (s .args .shrink)) i nan)) (λ i. []) n (c .before .before .before .before .before .before .before .before .before .before .mark-floats .result .0) (c .before .before .before .before .before .before .before .before .before .no-mark .result .0) (c .before .before .before .before .before .before .before .before .least .result .0) (c .before .before .before .before .before .before .before .before .before .before .mark-floats .ensures ∙ ap (single (λ i. float Factor (getD (now (s .args .shrink)) i nan))) (s .pre .4)) (c .before .before .before .before .before .before .before .before .before .no-mark .ensures ∙ sym (several-none n)) (c .before .before .before .before .before .before .before .before .least .ensures) in
+    let q2 = several-more (λ i. float Factor (getD (now (s .args .grow)) i nan)) (λ i. float Factor (getD (now (s .args .shrink)) i nan) ∷ []) n (c .before .before .before .before .before .before .before .mark-floats2 .result .0) (c .before .before .before .before .before .before .before .before .least .result .0) (c .before .before .before .before .before .before .least2 .result .0) (c .before .before .before .before .before .before .before .mark-floats2 .ensures ∙ ap (single (λ i. float Factor (getD (now (s .args .grow)) i nan))) (s .pre .3)) q (c .before .before .before .before .before .before .least2 .ensures) in
+    let q3 = several-more (λ i. float Size (getD (now (s .args .edges)) i nan)) (λ i. float Factor (getD (now (s .args .grow)) i nan) ∷ float Factor (getD (now (s .args .shrink)) i nan) ∷ []) n (c .before .before .before .before .before .mark-floats3 .result .0) (c .before .before .before .before .before .before .least2 .result .0) (c .before .before .before .before .least3 .result .0) (c .before .before .before .before .before .mark-floats3 .ensures ∙ ap (single (λ i. float Size (getD (now (s .args .edges)) i nan))) (s .pre .2)) q2 (c .before .before .before .before .least3 .ensures) in
+    let q4 = several-more (λ i. float Size (getD (now (s .args .minimum)) i nan)) (λ i. float Size (getD (now (s .args .edges)) i nan) ∷ float Factor (getD (now (s .args .grow)) i nan) ∷ float Factor (getD (now (s .args .shrink)) i nan) ∷ []) n (c .before .before .before .mark-floats4 .result .0) (c .before .before .before .before .least3 .result .0) (c .before .before .least4 .result .0) (c .before .before .before .mark-floats4 .ensures ∙ ap (single (λ i. float Size (getD (now (s .args .minimum)) i nan))) (s .pre .1)) q3 (c .before .before .least4 .ensures) in
+    several-more (λ i. float Size (getD (now (s .args .base)) i nan)) (λ i. float Size (getD (now (s .args .minimum)) i nan) ∷ float Size (getD (now (s .args .edges)) i nan) ∷ float Factor (getD (now (s .args .grow)) i nan) ∷ float Factor (getD (now (s .args .shrink)) i nan) ∷ []) n (c .before .mark-floats5 .result .0) (c .before .before .least4 .result .0) (c .least5 .result .0) (c .before .mark-floats5 .ensures) q4 (c .least5 .ensures)
+
+pub mark-plain-spec : {M : Type 1} → statement M
+mark-plain-spec =
+    tie.close
+    (tie.spec
+    mark-floats-requires
+    no-mark-requires
+    least-requires
+    mark-floats-requires-2
+    least-requires-2
+    mark-floats-requires-3
+    least-requires-3
+    mark-floats-requires-4
+    least-requires-4
+    mark-floats-requires-5
+    least-requires-5
+    returns)

@@ -1,0 +1,86 @@
+-- A line's free space, rounds and targets depend only on the container and its own items; and lines flexed leave no choice. By the same of
+-- one line. Assumes nothing.
+use mathlib.Core.Path.{_≡_, refl, sym, ap, ap₂, _∙_}
+use mathlib.Core.Logic.{_⊎_, inl, inr}
+use mathlib.Core.Bool.{Bool, true, false}
+use mathlib.Core.List.{List, [], _∷_, _++_}
+use Prim.Native.Nat.{ℕ, zero, suc, _≤_, _<_}
+use native.Mathlib.Omega.{arith}
+use lib.Dec.{ltb}
+use lib.ListN.{length, getD, take, take-append-drop}
+use lib.Seq.{ext-getD, take-add}
+use lib.IntN.{ℤ, pos}
+use lib.Ieee.{Float}
+use borrow.Author.Tests.{ltb-true, ltb-false}
+use Rattle.refusal.specs.Marks.{sumUpTo}
+use Rattle.flexing.specs.declared.Item.{Item}
+use Rattle.flexing.proofs.Determined.{same-answer}
+use Rattle.flexlines.specs.Lines.{lineStart, lineItems, lineCells, Beyond, FlexedLines}
+use Rattle.flexlines.proofs.Going.{sum-ext, flexed-as}
+
+-- ---- a line by itself
+
+pub record SameFlexed (counts counts' : List ℕ) (j j' : ℕ) (targets targets' : List Float) (free free' : List ℤ) (rounds rounds' : List ℕ) : Type 0 where
+  pub free-same : getD free j (pos 0) ≡ getD free' j' (pos 0)
+  pub rounds-same : getD rounds j 0 ≡ getD rounds' j' 0
+  pub targets-same : lineCells counts j targets ≡ lineCells counts' j' targets'
+
+pub flexed-alone : {inner gap : Float} {item item' : ℕ → Item} {n n' : ℕ} {counts counts' : List ℕ} {sum sum' : ℕ} {t₀ t t₀' t' : List Float} {f₀ f f₀' f' : List ℤ} {r₀ r r₀' r' : List ℕ}
+    → FlexedLines inner gap item n counts sum t₀ f₀ r₀ t f r → FlexedLines inner gap item' n' counts' sum' t₀' f₀' r₀' t' f' r'
+    → (j j' : ℕ) → j < length counts → j' < length counts' → lineItems item counts j ≡ lineItems item' counts' j' → SameFlexed counts counts' j j' t t' f f' r r'
+flexed-alone {inner} {gap} {item' = item'} {counts' = counts'} p q j j' h h' e =
+    let a = flexed-as inner gap _ _ _ _ _ _ [] [] _ _ e refl refl refl refl (p .line j h) in
+    let s = same-answer inner gap (lineItems item' counts' j') [] a (q .line j' h') in
+    record { free-same = s .0; rounds-same = s .1; targets-same = s .2 }
+
+-- ---- lists, by their lines
+
+split : (j k : ℕ) → (j < k) ⊎ (k ≤ j)
+split j k = go (ltb j k) refl
+  where
+    go : (b : Bool) → ltb j k ≡ b → (j < k) ⊎ (k ≤ j)
+    go true e = inl (ltb-true j k e)
+    go false e = inr (ltb-false j k e)
+
+-- a list by line, by its lines and what lies beyond
+by-line : {A : Type 0} (none : A) (k n : ℕ) (old a b : List A) → Beyond none k n old a → Beyond none k n old b → ((j : ℕ) → j < k → getD a j none ≡ getD b j none) → a ≡ b
+by-line none k n old a b p q h = ext-getD none a b (p .long ∙ sym (q .long)) (λ j l. below j (split j k) (split j n))
+  where
+    below : (j : ℕ) → (j < k) ⊎ (k ≤ j) → (j < n) ⊎ (n ≤ j) → getD a j none ≡ getD b j none
+    below j (inl l) m = h j l
+    below j (inr l) (inl m) = p .zeros j l m ∙ sym (q .zeros j l m)
+    below j (inr l) (inr m) = p .kept j m ∙ sym (q .kept j m)
+
+-- a list by item, by the cells of its lines
+by-cells : (counts : List ℕ) (k : ℕ) (a b : List Float) → ((j : ℕ) → j < k → lineCells counts j a ≡ lineCells counts j b) → take (lineStart counts k) a ≡ take (lineStart counts k) b
+unfolding sumUpTo
+by-cells counts zero a b h = nothing a ∙ sym (nothing b)
+  where
+    nothing : (l : List Float) → take 0 l ≡ []
+    nothing [] = refl
+    nothing (x ∷ l) = refl
+by-cells counts (suc k) a b h =
+    take-add (lineStart counts k) (getD counts k 0) a
+    ∙ ap₂ (λ (x y : List Float). x ++ y) (by-cells counts k a b (λ j l. h j (omega arith))) (h k (omega arith))
+    ∙ sym (take-add (lineStart counts k) (getD counts k 0) b)
+
+-- ---- no choice
+
+pub record OneFlexed (sum sum' : ℕ) (t t' : List Float) (f f' : List ℤ) (r r' : List ℕ) : Type 0 where
+  pub sums : sum ≡ sum'
+  pub targets : t ≡ t'
+  pub free : f ≡ f'
+  pub rounds : r ≡ r'
+
+pub one-flexed : {inner gap : Float} {item : ℕ → Item} {n : ℕ} (counts : List ℕ) {t₀ : List Float} {f₀ : List ℤ} {r₀ : List ℕ} {sum sum' : ℕ} {t t' : List Float} {f f' : List ℤ} {r r' : List ℕ}
+    → lineStart counts (length counts) ≡ n → FlexedLines inner gap item n counts sum t₀ f₀ r₀ t f r → FlexedLines inner gap item n counts sum' t₀ f₀ r₀ t' f' r' → OneFlexed sum sum' t t' f f' r r'
+one-flexed {n = n} counts {t₀} {f₀} {r₀} {sum} {sum'} {t} {t'} {f} {f'} {r} {r'} w p q =
+    let c : ℕ = length counts in
+    let same : (j : ℕ) → j < c → SameFlexed counts counts j j t t' f f' r r' = λ j h. flexed-alone p q j j h h refl in
+    let cells : take n t ≡ take n t' = ap (λ (i : ℕ). take i t) (sym w) ∙ by-cells counts c t t' (λ j h. same j h .targets-same) ∙ ap (λ (i : ℕ). take i t') w in
+    record {
+      sums = p .sum-is ∙ sum-ext (λ j. getD r j 0) (λ j. getD r' j 0) c (λ j h. same j h .rounds-same) ∙ sym (q .sum-is);
+      targets = sym (take-append-drop n t) ∙ ap₂ (λ (x y : List Float). x ++ y) cells (p .past ∙ sym (q .past)) ∙ take-append-drop n t';
+      free = by-line (pos 0) c n f₀ f f' (p .free-past) (q .free-past) (λ j h. same j h .free-same);
+      rounds = by-line 0 c n r₀ r r' (p .rounds-past) (q .rounds-past) (λ j h. same j h .rounds-same);
+    }

@@ -1,0 +1,53 @@
+-- Many lines flexed (document 01, "Flexible lengths": "Calls over many lines list free space and rounds by line and answer the rounds' sum").
+-- Assumes nothing.
+use mathlib.Core.Path.{_≡_}
+use mathlib.Core.Bool.{Bool, true, _&&_}
+use mathlib.Core.List.{List, []}
+use Prim.Native.Nat.{ℕ, zero, suc, _+_, _≤_, _<_}
+use lib.Dec.{eqb, leb}
+use lib.ListN.{length, getD, take, drop}
+use lib.IntN.{ℤ, pos}
+use lib.Ieee.{Float}
+use Rattle.refusal.specs.Marks.{sumUpTo}
+use Rattle.flexing.specs.declared.Item.{Item}
+use Rattle.flexing.specs.Flex.{Flexed}
+use Rattle.flexing.specs.Items.{each}
+
+-- ---- a line's range, by the items that each line has
+
+-- its first item: the items of the lines before it
+abbrev pub lineStart : List ℕ → ℕ → ℕ
+lineStart counts j = sumUpTo (λ i. getD counts i 0) j
+
+abbrev pub lineItems : (ℕ → Item) → List ℕ → ℕ → List Item
+lineItems item counts j = each (getD counts j 0) (λ i. item (lineStart counts j + i))
+
+-- its part of a list by item
+abbrev pub lineCells : List ℕ → ℕ → List Float → List Float
+lineCells counts j l = take (getD counts j 0) (drop (lineStart counts j) l)
+
+-- none of the first k counts is 0
+unfoldable pub positive : List ℕ → ℕ → Bool
+positive counts zero = true
+positive counts (suc k) = leb 1 (getD counts k 0) && positive counts k
+
+-- the counts are a division of n items: "positive counts with sum n"
+abbrev pub divides : List ℕ → ℕ → Bool
+divides counts n = eqb (lineStart counts (length counts)) n && positive counts (length counts)
+
+-- ---- the lines flexed
+
+-- a list by line beyond its k lines: "cells past the last line get 0", up to n; and "all cells past the named ones are unchanged"
+pub record Beyond {A : Type 0} (none : A) (k n : ℕ) (old new : List A) : Type 0 where
+  pub long : length new ≡ length old
+  pub zeros : (j : ℕ) → k ≤ j → j < n → getD new j none ≡ none
+  pub kept : (j : ℕ) → n ≤ j → getD new j none ≡ getD old j none
+
+-- every line is flexed by its own items alone; and the sum of the rounds
+pub record FlexedLines (inner gap : Float) (item : ℕ → Item) (n : ℕ) (counts : List ℕ) (sum : ℕ) (targets₀ : List Float) (free₀ : List ℤ) (rounds₀ : List ℕ) (targets : List Float) (free : List ℤ) (rounds : List ℕ) : Type 0 where
+  pub line : (j : ℕ) → j < length counts → Flexed inner gap (lineItems item counts j) (getD free j (pos 0)) (getD rounds j 0) [] (lineCells counts j targets)
+  pub sum-is : sum ≡ sumUpTo (λ j. getD rounds j 0) (length counts)
+  pub long : length targets ≡ length targets₀
+  pub past : drop n targets ≡ drop n targets₀
+  pub free-past : Beyond (pos 0) (length counts) n free₀ free
+  pub rounds-past : Beyond 0 (length counts) n rounds₀ rounds

@@ -1,0 +1,52 @@
+-- What the contracts of functions that are no entry points cite of many lines: what their loop asks, and what it gives before the cells past
+-- the last line are cleared. Definitions only. Assumes nothing.
+use mathlib.Core.Path.{_≡_}
+use mathlib.Core.List.{List, []}
+use Prim.Native.Nat.{ℕ, _≤_, _<_}
+use lib.ListN.{length, getD, drop}
+use lib.IntN.{ℤ, pos}
+use lib.Ieee.{Float}
+use Rattle.grid.specs.Grid.{Length}
+use Rattle.refusal.specs.Marks.{sumUpTo}
+use Rattle.flexing.specs.declared.Item.{Item}
+use Rattle.flexing.specs.Flex.{Flexed, outerSum}
+use Rattle.rounds.specs.Cells.{itemsIn, Tabled}
+use Rattle.flexlines.specs.Lines.{lineStart, lineItems, lineCells}
+
+-- what checks 1 to 5 show: the lines have the n items of the table, none of them is empty, and there is room
+pub record Divided (inner gap : Float) (t : List Float) (n : ℕ) (counts : List ℕ) (targets : List Float) (free : List ℤ) (rounds : List ℕ) : Type 0 where
+  pub few : n ≤ 1024
+  pub inner-is : Length inner
+  pub gap-is : Length gap
+  pub tabled : Tabled t n
+  pub whole : lineStart counts (length counts) ≡ n
+  pub positive : (j : ℕ) → j < length counts → 0 < getD counts j 0
+  pub room : n ≤ length targets
+  pub free-room : n ≤ length free
+  pub rounds-room : n ≤ length rounds
+
+-- and check 6
+pub record Lined (inner gap : Float) (t : List Float) (n : ℕ) (counts : List ℕ) (targets : List Float) (free : List ℤ) (rounds : List ℕ) : Type 0 where
+  pub divided : Divided inner gap t n counts targets free rounds
+  pub within : outerSum gap (itemsIn t 0 n) ≤ 16777216
+
+-- a list of which the cells from k on are as they were
+pub record Ahead {A : Type 0} (none : A) (k : ℕ) (old new : List A) : Type 0 where
+  pub long : length new ≡ length old
+  pub rest : (j : ℕ) → k ≤ j → getD new j none ≡ getD old j none
+
+-- the first k lines are flexed
+pub record Flowed (inner gap : Float) (item : ℕ → Item) (counts : List ℕ) (k sum : ℕ) (targets₀ : List Float) (free₀ : List ℤ) (rounds₀ : List ℕ) (targets : List Float) (free : List ℤ) (rounds : List ℕ) : Type 0 where
+  pub line : (j : ℕ) → j < k → Flexed inner gap (lineItems item counts j) (getD free j (pos 0)) (getD rounds j 0) [] (lineCells counts j targets)
+  pub sum-is : sum ≡ sumUpTo (λ j. getD rounds j 0) k
+  pub long : length targets ≡ length targets₀
+  pub past : drop (lineStart counts k) targets ≡ drop (lineStart counts k) targets₀
+  pub free-past : Ahead (pos 0) k free₀ free
+  pub rounds-past : Ahead 0 k rounds₀ rounds
+
+-- the cells from k up to n are cleared, and the others as they were
+pub record Cleared {A : Type 0} (none : A) (k n : ℕ) (old new : List A) : Type 0 where
+  pub long : length new ≡ length old
+  pub before : (j : ℕ) → j < k → getD new j none ≡ getD old j none
+  pub zeros : (j : ℕ) → k ≤ j → j < n → getD new j none ≡ none
+  pub kept : (j : ℕ) → n ≤ j → getD new j none ≡ getD old j none
