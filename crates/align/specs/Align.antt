@@ -110,7 +110,8 @@ firstOffset free n reversed (resolved.Spread SpaceBetween) = nought
 firstOffset free n reversed (resolved.Spread SpaceAround) = free ⊘ counted n ⊘ two
 firstOffset free n reversed (resolved.Spread SpaceEvenly) = free ⊘ counted (n + 1)
 
--- the later ones: "gap, plus free/(n−1), free/n, free/(n+1) for between, around, evenly"
+-- the later ones: "gap, plus free/(n−1), free/n, free/(n+1) for between, around, evenly where free is positive"; where it is not, the fallback has
+-- left no distribution
 unfoldable pub laterOffset : Float → ℕ → Float → Resolved → Float
 laterOffset free n gap (At p) = gap
 laterOffset free n gap (resolved.Spread Stretch) = gap

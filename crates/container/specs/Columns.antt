@@ -1,14 +1,20 @@
 -- The items of the pass in plain lists: lists of n cells one after another, list k from cell k·n on. Assumes nothing.
 use mathlib.Core.List.{List}
 use Prim.Native.Nat.{ℕ, _*_}
-use lib.ListN.{take, drop}
+use lib.ListN.{take, drop, replicate}
 use lib.Ieee.{Float}
 use Rattle.flexing.specs.Items.{Lists, lists}
+use Rattle.align.specs.Align.{nought}
+use Rattle.mainaxis.specs.MainAxis.{Line, line}
 use Rattle.linesize.specs.CrossSize.{Items, items}
 
 -- list k of those lists
 unfoldable pub column : {A : Type 0} → ℕ → ℕ → List A → List A
 column n k l = take n (drop (k * n) l)
+
+-- a list of n cells that nothing has been written to
+abbrev pub zeros : ℕ → List Float
+zeros n = replicate n nought
 
 -- ---- fourteen lists of numbers, and eight of codes
 
@@ -16,6 +22,10 @@ column n k l = take n (drop (k * n) l)
 abbrev pub mainLists : ℕ → List Float → List ℕ → Lists
 mainLists n x c =
     lists (column n 0 x) (column n 1 x) (column n 2 x) (column n 0 c) (column n 3 x) (column n 4 x) (column n 5 x) (column n 6 x) (column n 7 x) (column n 1 c) (column n 2 c)
+
+-- the same axis once the targets are worked out: targets, start and end margin
+abbrev pub mainItems : ℕ → List Float → List ℕ → List Float → Line
+mainItems n x c targets = line targets (column n 6 x) (column n 7 x) (column n 1 c) (column n 2 c)
 
 -- the cross axis: measured size, minimum, maximum (with the code that there is one), edges, start and end margin (with the codes of auto ones)
 abbrev pub crossItems : ℕ → List Float → List ℕ → Items

@@ -5,7 +5,9 @@ use lib.Dec.{eqb}
 use lib.Ieee.{Float}
 use Rattle.breaking.specs.declared.AvailableSpace.{AvailableSpace}
 use Rattle.breaking.specs.declared.AvailableSpace.the-variants.{Definite, MinContent, MaxContent}
+use Rattle.linesize.specs.declared.container.Cross.{Cross}
 use Rattle.crosschecks.specs.declared.numbers.CrossNumbers.{CrossNumbers}
+use Rattle.crosschecks.specs.Numbers.{crossOf}
 use Rattle.container.specs.declared.Container.{Container}
 
 -- limit kinds: 0 definite, 1 min-content, 2 max-content; the number is read only under 0
@@ -29,11 +31,14 @@ balances wrap = eqb wrap 3 || eqb wrap 4
 abbrev pub crossNumbersOf : Container → CrossNumbers
 crossNumbersOf c = record {
   inner = c .«inner_cross»;
-  definite = c .«has_inner_cross»;
+  «has_inner» = c .«has_inner_cross»;
   minimum = c .«minimum_cross»;
-  floored = c .«has_minimum_cross»;
+  «has_minimum» = c .«has_minimum_cross»;
   maximum = c .«maximum_cross»;
-  capped = c .«has_maximum_cross»;
+  «has_maximum» = c .«has_maximum_cross»;
   gap = c .«gap_cross»;
   wrap = c .wrap;
 }
+
+abbrev pub crossAxis : Container → Cross
+crossAxis c = crossOf (crossNumbersOf c)

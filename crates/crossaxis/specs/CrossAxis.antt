@@ -73,9 +73,23 @@ pub record Room (n : ℕ) (sizes starts ends offsets : List Float) : Type 0 wher
 abbrev pub placedAt : Float → Bool → Items → List ℕ → List ℕ → ℕ → CrossPlace
 placedAt line reversed ls alignment auto-size i = placedItem (cleaned line) reversed (itemAt ls i) (selfOf (getD alignment i 0)) (yes auto-size i)
 
+-- ---- the answers: lent cells as the call leaves them
+
+abbrev pub usedSizes : Float → Bool → Items → List ℕ → List ℕ → List Float → List Float
+usedSizes line reversed ls alignment auto-size = overwritten (count ls) (λ i. placedAt line reversed ls alignment auto-size i .size)
+
+abbrev pub usedStarts : Float → Bool → Items → List ℕ → List ℕ → List Float → List Float
+usedStarts line reversed ls alignment auto-size = overwritten (count ls) (λ i. placedAt line reversed ls alignment auto-size i .start)
+
+abbrev pub usedEnds : Float → Bool → Items → List ℕ → List ℕ → List Float → List Float
+usedEnds line reversed ls alignment auto-size = overwritten (count ls) (λ i. placedAt line reversed ls alignment auto-size i .end)
+
+abbrev pub itemOffsets : Float → Bool → Items → List ℕ → List ℕ → List Float → List Float
+itemOffsets line reversed ls alignment auto-size = overwritten (count ls) (λ i. placedAt line reversed ls alignment auto-size i .offset)
+
 -- the lent cells after the call, beside those before it
 pub record Across (line : Float) (reversed : Bool) (ls : Items) (alignment auto-size : List ℕ) (sizes₀ starts₀ ends₀ offsets₀ sizes starts ends offsets : List Float) : Type 0 where
-  pub sizes-are : sizes ≡ overwritten (count ls) (λ i. placedAt line reversed ls alignment auto-size i .size) sizes₀
-  pub starts-are : starts ≡ overwritten (count ls) (λ i. placedAt line reversed ls alignment auto-size i .start) starts₀
-  pub ends-are : ends ≡ overwritten (count ls) (λ i. placedAt line reversed ls alignment auto-size i .end) ends₀
-  pub offsets-are : offsets ≡ overwritten (count ls) (λ i. placedAt line reversed ls alignment auto-size i .offset) offsets₀
+  pub sizes-are : sizes ≡ usedSizes line reversed ls alignment auto-size sizes₀
+  pub starts-are : starts ≡ usedStarts line reversed ls alignment auto-size starts₀
+  pub ends-are : ends ≡ usedEnds line reversed ls alignment auto-size ends₀
+  pub offsets-are : offsets ≡ itemOffsets line reversed ls alignment auto-size offsets₀

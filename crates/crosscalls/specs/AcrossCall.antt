@@ -14,9 +14,8 @@ use Rattle.refusal.specs.declared.Verdict.the-variants as verdict
 use Rattle.refusal.specs.declared.Answer.{Answer}
 use Rattle.refusal.specs.declared.Answer.the-variants.{Done}
 use Rattle.refusal.specs.declared.Answer.the-variants as answer
-use Rattle.align.specs.Lists.{overwritten}
 use Rattle.linesize.specs.CrossSize.{Items, count}
-use Rattle.crossaxis.specs.CrossAxis.{placedAt}
+use Rattle.crossaxis.specs.CrossAxis.{usedSizes, usedStarts, usedEnds, itemOffsets}
 use Rattle.crosschecks.specs.Numbers.{acrossNumbersAt}
 use Rattle.crosscalls.specs.SizeCall as size
 
@@ -50,8 +49,8 @@ result r z s e o = record { answer = r; sizes = z; starts = s; ends = e; offsets
 abbrev pub acrossInto : Verdict → Float → ℕ → Items → List ℕ → List ℕ → List Float → List Float → List Float → List Float → AcrossResult
 acrossInto (verdict.Refused why) line reversed ls alignment auto-size z s e o = result (answer.Refused why) z s e o
 acrossInto Passed line reversed ls alignment auto-size z s e o =
-    let placed = placedAt line (not (eqb reversed 0)) ls alignment auto-size in
-    result (Done 0 0) (overwritten (count ls) (λ i. placed i .size) z) (overwritten (count ls) (λ i. placed i .start) s) (overwritten (count ls) (λ i. placed i .end) e) (overwritten (count ls) (λ i. placed i .offset) o)
+    let back = not (eqb reversed 0) in
+    result (Done 0 0) (usedSizes line back ls alignment auto-size z) (usedStarts line back ls alignment auto-size s) (usedEnds line back ls alignment auto-size e) (itemOffsets line back ls alignment auto-size o)
 
 abbrev pub acrossCall : Float → ℕ → Items → List ℕ → List ℕ → List Float → List Float → List Float → List Float → AcrossResult
 acrossCall line reversed ls alignment auto-size z s e o = acrossInto (acrossVerdict line reversed ls alignment auto-size (length z ∷ length s ∷ length e ∷ length o ∷ [])) line reversed ls alignment auto-size z s e o

@@ -3,7 +3,6 @@ use mathlib.Core.List.{List, [], _∷_}
 use Prim.Native.Nat.{ℕ}
 use lib.ListN.{length}
 use lib.Ieee.{Float}
-use Rattle.grid.specs.Grid.{cleaned}
 use Rattle.refusal.specs.Domain.{code, Input, checked, then}
 use Rattle.refusal.specs.Shapes.{shapeOf}
 use Rattle.refusal.specs.Lists.{floatAt}
@@ -12,15 +11,13 @@ use Rattle.refusal.specs.declared.Verdict.{Verdict}
 use Rattle.refusal.specs.declared.Verdict.the-variants.{Passed}
 use Rattle.refusal.specs.declared.Verdict.the-variants as verdict
 use Rattle.align.specs.Align.{contentOf}
-use Rattle.align.specs.Lists.{overwritten}
-use Rattle.align.specs.Axis as axis
 use Rattle.linesize.specs.declared.container.Cross.{Cross}
 use Rattle.crosschecks.specs.declared.numbers.CrossNumbers.{CrossNumbers}
 use Rattle.crosscalls.specs.declared.line_call.LinesAnswer.{LinesAnswer}
 use Rattle.crosscalls.specs.declared.line_call.LinesAnswer.the-variants.{Placed, Refused}
-use Rattle.linesize.specs.Container.{isReversed, readCross}
+use Rattle.linesize.specs.Container.{readCross}
 use Rattle.crosschecks.specs.Numbers.{crossOf, crossNumbers}
-use Rattle.crossaxis.specs.Lines.{grownAt, lineGain, containerSize, freeCross}
+use Rattle.crossaxis.specs.Lines.{innerCross, lineSizes, lineOffsets}
 
 abbrev pub linesInput : CrossNumbers → ℕ → List Float → Input
 linesInput c alignment lines = record {
@@ -44,11 +41,7 @@ result r s o = record { answer = r; sizes = s; offsets = o }
 
 -- what the lines of a container come to
 abbrev pub along : Cross → ℕ → List Float → List Float → List Float → LinesResult
-along c alignment lines s o =
-    let a = contentOf alignment in
-    result (Placed (cleaned (containerSize c a lines)))
-    (overwritten (length lines) (grownAt (lineGain c a lines) lines) s)
-    (overwritten (length lines) (axis.offsets (freeCross c a lines) (length lines) (c .gap) a (isReversed (c .wrap))) o)
+along c alignment lines s o = let a = contentOf alignment in result (Placed (innerCross c a lines)) (lineSizes c a lines s) (lineOffsets c a lines o)
 
 -- a refusal changes no cell
 abbrev pub linesInto : Verdict → CrossNumbers → ℕ → List Float → List Float → List Float → LinesResult

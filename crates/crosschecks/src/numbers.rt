@@ -13,14 +13,15 @@ use refusal::least;
 use single::mark_code;
 use single::mark_float;
 
-// Of the codes, 1 says that the inner size is definite, or that there is a minimum, or a maximum.
+// As a host hands it over. A size or bound whose code is 0 is absent, and its number is not read.
+#[repr(C)]
 pub struct CrossNumbers {
     pub inner: f32,
-    pub definite: u32,
+    pub has_inner: u32,
     pub minimum: f32,
-    pub floored: u32,
+    pub has_minimum: u32,
     pub maximum: f32,
-    pub capped: u32,
+    pub has_maximum: u32,
     pub gap: f32,
     pub wrap: u32,
 }
@@ -38,9 +39,9 @@ pub fn cross_of(c: CrossNumbers) -> Cross
     ensures { λ r. ⌜ r ≡ crossOf c ⌝ }
 {
     Cross {
-        inner: bound_of(c.definite, c.inner),
-        minimum: bound_of(c.floored, c.minimum),
-        maximum: bound_of(c.capped, c.maximum),
+        inner: bound_of(c.has_inner, c.inner),
+        minimum: bound_of(c.has_minimum, c.minimum),
+        maximum: bound_of(c.has_maximum, c.maximum),
         gap: c.gap,
         wrap: container::wrap_of(c.wrap),
     }
@@ -59,10 +60,10 @@ fn mark_bound(given: u32, x: f32) -> Mark
 fn mark_bounds(c: CrossNumbers, plain: Mark) -> Mark
     ensures { λ r. ⌜ ((rest : List Number) → plain .0 ≡ leastOf rest 0 → r .0 ≡ leastOf (boundsNumbers c rest) 0) ⌝ }
 {
-    let maximum = mark_bound(c.capped, c.maximum);
-    let minimum = mark_bound(c.floored, c.minimum);
+    let maximum = mark_bound(c.has_maximum, c.maximum);
+    let minimum = mark_bound(c.has_minimum, c.minimum);
     least(
-        mark_bound(c.definite, c.inner),
+        mark_bound(c.has_inner, c.inner),
         least(minimum, least(maximum, plain)),
     )
 }

@@ -20,11 +20,12 @@ use Rattle.sizelines.specs.Sizes.{crossLine, SizesReady, crossSizes}
 use Rattle.crosslines.specs.Cross.{AcrossReady, AcrossLines}
 use Rattle.sizelines.proofs.Sizing.{sizes-front}
 use Rattle.container.specs.declared.Container.{Container}
-use Rattle.container.specs.Columns.{column, crossItems, alignSelf, autoSize}
+use Rattle.container.specs.Columns.{column, crossItems, alignSelf, autoSize, zeros}
 use Rattle.container.specs.Stages.{Inside, Stored, FourStored}
 use Rattle.container.proofs.ColumnLaws.{before}
 use Rattle.passchecks.proofs.Taken.{number-length, sorted-cross}
-use Rattle.crossstage.specs.CrossStage.{crossAxis, zeros, Ready, AlignedLines, LinesPlaced, PlacedAcross, ItemsAcross}
+use Rattle.container.specs.Container.{crossAxis}
+use Rattle.crossstage.specs.CrossStage.{Ready, AlignedLines, LinesPlaced, PlacedAcross, ItemsAcross}
 
 -- ---- what is asked
 

@@ -2,28 +2,18 @@
 use mathlib.Core.Path.{_≡_}
 use mathlib.Core.List.{List, []}
 use Prim.Native.Nat.{ℕ, _*_, _≤_, _<_}
-use lib.ListN.{length, replicate}
+use lib.ListN.{length}
 use lib.Ieee.{Float}
-use Rattle.align.specs.Align.{nought, contentOf}
-use Rattle.linesize.specs.declared.container.Cross.{Cross}
+use Rattle.align.specs.Align.{contentOf}
 use Rattle.linesize.specs.Container.{wrapOf, isReversed}
-use Rattle.crosschecks.specs.Numbers.{crossOf}
 use Rattle.crossaxis.specs.Lines.{Aligned}
 use Rattle.bylines.specs.Parts.{Division, Past}
 use Rattle.sizelines.specs.Sizes.{crossSizes}
 use Rattle.crosslines.specs.Cross.{AcrossLines}
 use Rattle.container.specs.declared.Container.{Container}
-use Rattle.container.specs.Columns.{column, crossItems, alignSelf, autoSize}
-use Rattle.container.specs.Container.{crossNumbersOf}
+use Rattle.container.specs.Columns.{column, zeros, crossItems, alignSelf, autoSize}
+use Rattle.container.specs.Container.{crossAxis}
 use Rattle.container.specs.Stages.{Listed}
-
--- the container's cross axis, as its definitions take it
-abbrev pub crossAxis : Container → Cross
-crossAxis c = crossOf (crossNumbersOf c)
-
--- a list of n cells that nothing has been written to
-abbrev pub zeros : ℕ → List Float
-zeros n = replicate n nought
 
 -- what the checks and the breaking before it have shown: the items' lists, and lines that have the n items
 pub record Ready (n : ℕ) (x : List Float) (codes counts : List ℕ) : Type 0 where

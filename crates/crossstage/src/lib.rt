@@ -5,7 +5,8 @@ ghost use Prim.Native.Nat.{_*_, _≤_};
 ghost use lib.ListN.{length};
 ghost use Rattle.sizelines.specs.Sizes.{crossSizes};
 ghost use Rattle.container.specs.Columns.{crossItems};
-ghost use Rattle.crossstage.specs.CrossStage.{crossAxis, Ready, AlignedLines, LinesPlaced, PlacedAcross, ItemsAcross};
+ghost use Rattle.container.specs.Container.{crossAxis};
+ghost use Rattle.crossstage.specs.CrossStage.{Ready, AlignedLines, LinesPlaced, PlacedAcross, ItemsAcross};
 use align::content_of;
 use container::Container;
 use container::columns::code_column;
@@ -81,7 +82,7 @@ fn align_sized<'a>(
 }
 
 // The same in the two lists by line that the pass is lent.
-pub fn place_lines<'a>(
+pub fn lines_along<'a>(
     c: Container,
     n: usize,
     numbers: &'a [f32],
@@ -147,7 +148,7 @@ fn across_lines<'a>(
 }
 
 // The same in the last four lists by item that the pass is lent.
-pub fn place_across<'a>(
+pub fn items_across<'a>(
     c: Container,
     n: usize,
     numbers: &'a [f32],

@@ -56,8 +56,17 @@ autoShare free n = cond (lt nought free && ltb 0 n) (free ⊘ counted n) nought
 unfoldable pub justified : Float → ℕ → Float
 justified free n = cond (lt nought free && ltb 0 n) nought free
 
+-- ---- the answers: lent cells as the call leaves them
+
+abbrev pub placedOffsets : Float → Float → ContentAlignment → Bool → Line → List Float → List Float
+placedOffsets inner gap justify reversed l = overwritten (count l) (offsets (justified (freeSpace inner gap l) (autoCount l)) (count l) (cleaned gap) justify reversed)
+
+-- the used margins of one side
+abbrev pub usedMargins : Float → Float → Line → List ℕ → List Float → List Float → List Float
+usedMargins inner gap l auto margins = overwritten (count l) (marginAt (autoShare (freeSpace inner gap l) (autoCount l)) auto margins)
+
 -- the lent cells after the call, beside those before it
 pub record Spaced (inner gap : Float) (justify : ContentAlignment) (reversed : Bool) (l : Line) (offsets₀ starts₀ ends₀ offsets₁ starts ends : List Float) : Type 0 where
-  pub offsets-are : offsets₁ ≡ overwritten (count l) (offsets (justified (freeSpace inner gap l) (autoCount l)) (count l) (cleaned gap) justify reversed) offsets₀
-  pub starts-are : starts ≡ overwritten (count l) (marginAt (autoShare (freeSpace inner gap l) (autoCount l)) (l .auto-start) (l .start)) starts₀
-  pub ends-are : ends ≡ overwritten (count l) (marginAt (autoShare (freeSpace inner gap l) (autoCount l)) (l .auto-end) (l .end)) ends₀
+  pub offsets-are : offsets₁ ≡ placedOffsets inner gap justify reversed l offsets₀
+  pub starts-are : starts ≡ usedMargins inner gap l (l .auto-start) (l .start) starts₀
+  pub ends-are : ends ≡ usedMargins inner gap l (l .auto-end) (l .end) ends₀

@@ -5,7 +5,6 @@ use Prim.Native.Nat.{ℕ}
 use lib.Dec.{eqb}
 use lib.ListN.{length}
 use lib.Ieee.{Float}
-use Rattle.grid.specs.Grid.{cleaned}
 use Rattle.refusal.specs.Domain.{Number, float, code, Input, checked, then}
 use Rattle.refusal.specs.declared.Kind.the-variants.{Size, Margin, Worked}
 use Rattle.refusal.specs.declared.Verdict.{Verdict}
@@ -15,9 +14,7 @@ use Rattle.refusal.specs.declared.Answer.{Answer}
 use Rattle.refusal.specs.declared.Answer.the-variants.{Done}
 use Rattle.refusal.specs.declared.Answer.the-variants as answer
 use Rattle.align.specs.Align.{contentOf}
-use Rattle.align.specs.Lists.{overwritten}
-use Rattle.align.specs.Axis as axis
-use Rattle.mainaxis.specs.MainAxis.{Line, count, freeSpace, autoCount, autoShare, justified}
+use Rattle.mainaxis.specs.MainAxis.{Line, count, placedOffsets, usedMargins}
 use Rattle.refusal.specs.Shapes.{shapeOf}
 use Rattle.refusal.specs.Lists.{floatAt, besideAt}
 
@@ -53,12 +50,7 @@ result r o s e = record { answer = r; offsets = o; starts = s; ends = e }
 abbrev pub mainInto : Verdict → Float → Float → ℕ → ℕ → Line → List Float → List Float → List Float → MainResult
 mainInto (verdict.Refused why) inner gap justify reversed l o s e = result (answer.Refused why) o s e
 mainInto Passed inner gap justify reversed l o s e =
-    let free = freeSpace inner gap l in
-    let share = autoShare free (autoCount l) in
-    result (Done 0 0)
-    (overwritten (count l) (axis.offsets (justified free (autoCount l)) (count l) (cleaned gap) (contentOf justify) (not (eqb reversed 0))) o)
-    (overwritten (count l) (axis.marginAt share (l .auto-start) (l .start)) s)
-    (overwritten (count l) (axis.marginAt share (l .auto-end) (l .end)) e)
+    result (Done 0 0) (placedOffsets inner gap (contentOf justify) (not (eqb reversed 0)) l o) (usedMargins inner gap l (l .auto-start) (l .start) s) (usedMargins inner gap l (l .auto-end) (l .end) e)
 
 abbrev pub mainCall : Float → Float → ℕ → ℕ → Line → List Float → List Float → List Float → MainResult
 mainCall inner gap justify reversed l o s e = mainInto (mainVerdict inner gap justify reversed l (length o ∷ length s ∷ length e ∷ [])) inner gap justify reversed l o s e

@@ -22,11 +22,11 @@ use Rattle.mainaxis.specs.MainAxis.{Line, line}
 use Rattle.bylines.specs.Parts.{Past}
 use Rattle.mainlines.specs.Main.{MainReady, MainLines}
 use Rattle.container.specs.declared.Container.{Container}
-use Rattle.container.specs.Columns.{column, mainLists}
+use Rattle.container.specs.Columns.{column, mainLists, zeros, mainItems}
 use Rattle.container.specs.Container.{reversed}
 use Rattle.container.specs.Stages.{Listed, Inside, FourStored}
 use Rattle.passchecks.proofs.Taken.{number-length, code-length}
-use Rattle.mainstage.specs.Stage.{zeros, mainItems, Ready, Run, MainStage}
+use Rattle.mainstage.specs.Stage.{Ready, Run, MainStage}
 
 -- ---- lists of n cells: nothing is past them
 

@@ -3,7 +3,7 @@ use mathlib.Core.Path.{_≡_}
 use mathlib.Core.Bool.{Bool}
 use mathlib.Core.List.{List}
 use Prim.Native.Nat.{ℕ, _*_, _≤_}
-use lib.ListN.{length, drop, replicate}
+use lib.ListN.{length, drop}
 use lib.IntN.{ℤ}
 use lib.Ieee.{Float}
 use Rattle.grid.specs.Grid.{cleaned}
@@ -11,21 +11,12 @@ use Rattle.flexing.specs.Items.{itemAt}
 use Rattle.rounds.specs.Cells.{Held}
 use Rattle.flexlines.specs.Lines.{FlexedLines}
 use Rattle.flexlines.specs.Parts.{Lined}
-use Rattle.align.specs.Align.{nought, contentOf}
-use Rattle.mainaxis.specs.MainAxis.{Line, line}
+use Rattle.align.specs.Align.{contentOf}
 use Rattle.mainlines.specs.Main.{MainLines}
 use Rattle.container.specs.declared.Container.{Container}
-use Rattle.container.specs.Columns.{column, mainLists}
+use Rattle.container.specs.Columns.{column, zeros, mainLists, mainItems}
 use Rattle.container.specs.Container.{reversed}
 use Rattle.container.specs.Stages.{Listed}
-
--- n cells that nothing has been written to
-abbrev pub zeros : ℕ → List Float
-zeros n = replicate n nought
-
--- the items on the main axis: their targets, and their margins with the codes of auto ones
-abbrev pub mainItems : ℕ → List Float → List ℕ → List Float → Line
-mainItems n x codes targets = line targets (column n 6 x) (column n 7 x) (column n 1 codes) (column n 2 codes)
 
 -- what the checks show, and what has been read: the lists are there, the table holds the items, the counts are lines of them, and there is room
 pub record Ready (c : Container) (n : ℕ) (t x : List Float) (codes counts : List ℕ) (free : List ℤ) (rounds : List ℕ) : Type 0 where

@@ -53,9 +53,9 @@ limit-length (suc (suc k)) x f = tt
 
 wrap-code : (c : CrossNumbers) → AllFine (crossNumbers c) → c .wrap ≤ 4
 wrap-code c f =
-    let a = fine-append (boundNumbers (c .definite) (c .inner)) _ f in
-    let b = fine-append (boundNumbers (c .floored) (c .minimum)) _ (a .1) in
-    let d = fine-append (boundNumbers (c .capped) (c .maximum)) _ (b .1) in
+    let a = fine-append (boundNumbers (c .«has_inner») (c .inner)) _ f in
+    let b = fine-append (boundNumbers (c .«has_minimum») (c .minimum)) _ (a .1) in
+    let d = fine-append (boundNumbers (c .«has_maximum») (c .maximum)) _ (b .1) in
     fine-code (d .1 .1 .0)
 
 -- ---- room for the lines

@@ -23,13 +23,13 @@ use Rattle.wrapping.specs.Outer.{outerSizes}
 use Rattle.wrapping.proofs.Given.{sizes-long}
 use Rattle.wrapping.proofs.Division.{Divides, lines-divide, read-back}
 use Rattle.container.specs.declared.Container.{Container}
-use Rattle.container.specs.Columns.{column, mainLists}
+use Rattle.container.specs.Columns.{column, mainLists, zeros, mainItems}
 use Rattle.container.specs.Container.{limitOf, reversed}
 use Rattle.mainstage.specs.Stage as main
 use Rattle.crossstage.specs.CrossStage.{Ready}
 use Rattle.refusal.specs.declared.Verdict.{Verdict}
 use Rattle.pass.specs.declared.PassAnswer.{PassAnswer}
-use Rattle.pass.specs.Pass.{Lent, lent, zeros, modeOf, mainItems, Laid, Answered}
+use Rattle.pass.specs.Pass.{Lent, lent, modeOf, Laid, Answered}
 use Rattle.pass.specs.Stages.{Broken, MainAsked, MainLaid, CrossAsked, CrossLaid}
 
 -- ---- the lines, read back

@@ -30,8 +30,8 @@ use Rattle.crosslines.specs.Cross.{AcrossLines}
 use Rattle.mainlines.proofs.Spacing as spacing
 use Rattle.crosslines.proofs.Placing as placing
 use Rattle.container.specs.declared.Container.{Container}
-use Rattle.container.specs.Columns.{column, mainLists, crossItems, alignSelf, autoSize}
-use Rattle.container.specs.Container.{limitOf, reversed}
+use Rattle.container.specs.Columns.{column, mainLists, crossItems, alignSelf, autoSize, zeros, mainItems}
+use Rattle.container.specs.Container.{limitOf, reversed, crossAxis}
 use Rattle.container.specs.Stages.{Listed}
 use Rattle.container.proofs.ColumnLaws.{before, length-column}
 use Rattle.passchecks.specs.Checks.{passInput, passSum, passRoom, passVerdict}
@@ -39,7 +39,7 @@ use Rattle.passchecks.proofs.Taken.{number-length}
 use Rattle.passchecks.proofs.Rooms.{roomy-of}
 use Rattle.pass.specs.declared.PassAnswer.{PassAnswer}
 use Rattle.pass.specs.declared.PassAnswer.the-variants.{Done, Refused}
-use Rattle.pass.specs.Pass.{Lent, lent, zeros, modeOf, mainItems, crossAxis, Laid, Passed}
+use Rattle.pass.specs.Pass.{Lent, lent, modeOf, Laid, Passed}
 use Rattle.pass.proofs.LaidLaws.{wrapped-divides}
 
 -- ---- lists of lists

@@ -4,7 +4,7 @@ use mathlib.Core.Bool.{Bool, cond}
 use mathlib.Core.List.{List, []}
 use Prim.Native.Nat.{ℕ, _*_}
 use lib.Dec.{eqb, ltb}
-use lib.ListN.{length, take, replicate}
+use lib.ListN.{length, take}
 use lib.IntN.{ℤ}
 use lib.Ieee.{Float}
 use Rattle.grid.specs.Grid.{cleaned}
@@ -16,19 +16,16 @@ use Rattle.wrapping.specs.declared.Mode.{Mode}
 use Rattle.wrapping.specs.declared.Mode.the-variants.{Single, Greedy, Balanced}
 use Rattle.wrapping.specs.Wrapping as wrapping
 use Rattle.wrapping.specs.Outer.{outerSizes}
-use Rattle.align.specs.Align.{nought, contentOf}
-use Rattle.mainaxis.specs.MainAxis.{Line, line}
-use Rattle.linesize.specs.declared.container.Cross.{Cross}
+use Rattle.align.specs.Align.{contentOf}
 use Rattle.linesize.specs.Container.{wrapOf, isReversed}
-use Rattle.crosschecks.specs.Numbers.{crossOf}
 use Rattle.crossaxis.specs.Lines.{Aligned}
 use Rattle.bylines.specs.Parts.{Past}
 use Rattle.mainlines.specs.Main.{MainLines}
 use Rattle.sizelines.specs.Sizes.{crossSizes}
 use Rattle.crosslines.specs.Cross.{AcrossLines}
 use Rattle.container.specs.declared.Container.{Container}
-use Rattle.container.specs.Columns.{column, mainLists, crossItems, alignSelf, autoSize}
-use Rattle.container.specs.Container.{limitOf, reversed, crossNumbersOf}
+use Rattle.container.specs.Columns.{column, zeros, mainLists, mainItems, crossItems, alignSelf, autoSize}
+use Rattle.container.specs.Container.{limitOf, reversed, crossAxis}
 use Rattle.passchecks.specs.Checks.{passRoom, passVerdict}
 use Rattle.pass.specs.declared.PassAnswer.{PassAnswer}
 use Rattle.pass.specs.declared.PassAnswer.the-variants.{Done, Refused}
@@ -49,24 +46,13 @@ pub record Lent : Type 0 where
 abbrev pub lent : List Float → List Float → List ℕ → List ℕ → List ℤ → List ℕ → List Float → Lent
 lent p l k r f w s = record { placed = p; lines = l; counts = k; rounds = r; free = f; work = w; sums = s }
 
--- a list of n cells that nothing has been written to
-abbrev pub zeros : ℕ → List Float
-zeros n = replicate n nought
-
 -- ---- the container
 
 -- nowrap; wrap and wrap-reverse; balance and balance-reverse
 abbrev pub modeOf : ℕ → Mode
 modeOf wrap = cond (eqb wrap 0) Single (cond (ltb wrap 3) Greedy Balanced)
 
-abbrev pub crossAxis : Container → Cross
-crossAxis c = crossOf (crossNumbersOf c)
-
 -- ---- an accepted run
-
--- the items of a line on the main axis: targets, and margins with the codes of auto ones
-abbrev pub mainItems : ℕ → List Float → List ℕ → List Float → Line
-mainItems n x codes targets = line targets (column n 6 x) (column n 7 x) (column n 1 codes) (column n 2 codes)
 
 -- so many lines, the sum of their rounds, and the container's inner cross size
 pub record Laid (c : Container) (n : ℕ) (x : List Float) (codes : List ℕ) (before : Lent) (lines sum : ℕ) (inner : Float) (after : Lent) : Type 0 where

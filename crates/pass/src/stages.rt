@@ -14,8 +14,8 @@ use breaking::AvailableSpace;
 use container::Container;
 use container::columns::code_column;
 use container::columns::column;
-use crossstage::place_across;
-use crossstage::place_lines;
+use crossstage::items_across;
+use crossstage::lines_along;
 use mainstage::place_main_axis;
 use wrapping::Mode;
 use wrapping::break_lines;
@@ -84,8 +84,8 @@ pub fn lay_cross<'a>(
     requires { ⌜ CrossAsked n (now numbers) (now codes) (now counts) (now lines) (now placed) ⌝ }
     ensures { λ r. ⌜ CrossLaid c n (now (numbers .entry)) (now (codes .entry)) (now (counts .entry)) r (now (lines .entry)) (now (placed .entry)) (now (lines .exit)) (now (placed .exit)) ⌝ }
 {
-    let inner = place_lines(c, n, numbers, codes, counts, lines);
-    place_across(c, n, numbers, codes, counts, &lines[..n], placed);
+    let inner = lines_along(c, n, numbers, codes, counts, lines);
+    items_across(c, n, numbers, codes, counts, &lines[..n], placed);
     inner
 }
 

@@ -98,11 +98,11 @@ pub fn cross_numbers(c: Container) -> CrossNumbers
 {
     CrossNumbers {
         inner: c.inner_cross,
-        definite: c.has_inner_cross,
+        has_inner: c.has_inner_cross,
         minimum: c.minimum_cross,
-        floored: c.has_minimum_cross,
+        has_minimum: c.has_minimum_cross,
         maximum: c.maximum_cross,
-        capped: c.has_maximum_cross,
+        has_maximum: c.has_maximum_cross,
         gap: c.gap_cross,
         wrap: c.wrap,
     }

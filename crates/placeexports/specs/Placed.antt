@@ -3,7 +3,6 @@ use mathlib.Core.List.{List}
 use lib.Ieee.{Float, binary32, ofBits}
 use Rattle.refusal.specs.Domain.{refusalOf}
 use Rattle.mainaxis.specs.MainCall.{MainResult}
-use Rattle.crosschecks.specs.declared.numbers.CrossNumbers.{CrossNumbers}
 use Rattle.crosscalls.specs.declared.size_call.SizeAnswer.{SizeAnswer}
 use Rattle.crosscalls.specs.declared.size_call.SizeAnswer.the-variants as size
 use Rattle.crosscalls.specs.declared.line_call.LinesAnswer.{LinesAnswer}
@@ -12,13 +11,7 @@ use Rattle.crosscalls.specs.LineCall.{LinesResult}
 use Rattle.crosscalls.specs.AcrossCall.{AcrossResult}
 use Rattle.crossing.specs.declared.CAnswer.{CAnswer}
 use Rattle.crossing.specs.Crossing.{crossed, cAnswer}
-use Rattle.placeexports.specs.declared.CCross.{CCross}
 use Rattle.placeexports.specs.declared.CSized.{CSized}
-
--- ---- the container's cross axis
-
-abbrev pub numbersOf : CCross → CrossNumbers
-numbersOf c = record { inner = c .inner; definite = c .«has_inner»; minimum = c .minimum; floored = c .«has_minimum»; maximum = c .maximum; capped = c .«has_maximum»; gap = c .gap; wrap = c .wrap }
 
 -- ---- a size
 

@@ -6,7 +6,7 @@ ghost use Rattle.linesize.specs.CrossSize.{items};
 ghost use Rattle.crosscalls.specs.SizeCall.{sizeCall};
 ghost use Rattle.crosscalls.specs.LineCall.{linesCall};
 ghost use Rattle.crosscalls.specs.AcrossCall.{acrossCall};
-ghost use Rattle.placeexports.specs.Placed.{numbersOf, cSize, cNothing, cLine, cLines, cMain, mainFromC, cAligned, linesFromC, cAcross, acrossFromC};
+ghost use Rattle.placeexports.specs.Placed.{cSize, cNothing, cLine, cLines, cMain, mainFromC, cAligned, linesFromC, cAcross, acrossFromC};
 use crosscalls::line_call::LinesAnswer;
 use crosscalls::size_call::SizeAnswer;
 use crosschecks::numbers::CrossNumbers;
@@ -19,34 +19,6 @@ pub struct CSized {
     pub at: u32,
     pub place: u32,
     pub size: f32,
-}
-
-// The container's cross axis. A size or bound whose code is 0 is absent, and its number is not read.
-#[repr(C)]
-pub struct CCross {
-    pub inner: f32,
-    pub has_inner: u32,
-    pub minimum: f32,
-    pub has_minimum: u32,
-    pub maximum: f32,
-    pub has_maximum: u32,
-    pub gap: f32,
-    pub wrap: u32,
-}
-
-fn numbers_of(c: CCross) -> CrossNumbers
-    ensures { λ r. ⌜ r ≡ numbersOf c ⌝ }
-{
-    CrossNumbers {
-        inner: c.inner,
-        definite: c.has_inner,
-        minimum: c.minimum,
-        floored: c.has_minimum,
-        maximum: c.maximum,
-        capped: c.has_maximum,
-        gap: c.gap,
-        wrap: c.wrap,
-    }
 }
 
 fn sized(size: f32) -> CSized
@@ -125,7 +97,7 @@ pub extern "C" fn fratolivem_place_main<'a>(
 // The cross size of one line. The container's gap is not read.
 #[no_mangle]
 pub extern "C" fn fratolivem_line_size<'a>(
-    c: CCross,
+    c: CrossNumbers,
     measured: &'a [f32],
     minimum: &'a [f32],
     maximum: &'a [f32],
@@ -136,10 +108,10 @@ pub extern "C" fn fratolivem_line_size<'a>(
     auto_start: &'a [u32],
     auto_end: &'a [u32],
 ) -> CSized
-    ensures { λ r. ⌜ r ≡ cLine (sizeCall (numbersOf c) (items (now (measured .entry)) (now (minimum .entry)) (now (maximum .entry)) (now («has_maximum» .entry)) (now (edges .entry)) (now (start .entry)) (now (end .entry)) (now («auto_start» .entry)) (now («auto_end» .entry)))) ⌝ }
+    ensures { λ r. ⌜ r ≡ cLine (sizeCall c (items (now (measured .entry)) (now (minimum .entry)) (now (maximum .entry)) (now («has_maximum» .entry)) (now (edges .entry)) (now (start .entry)) (now (end .entry)) (now («auto_start» .entry)) (now («auto_end» .entry)))) ⌝ }
 {
     line_to_c(crosscalls::size_call::size_line(
-        numbers_of(c),
+        c,
         measured,
         minimum,
         maximum,
@@ -155,21 +127,15 @@ pub extern "C" fn fratolivem_line_size<'a>(
 // The lines of a container: their sizes stretched, their offsets, and the container's inner cross size. An item of its list is a line.
 #[no_mangle]
 pub extern "C" fn fratolivem_place_lines(
-    c: CCross,
+    c: CrossNumbers,
     align_content: u32,
     lines: &[f32],
     sizes: &mut [f32],
     offsets: &mut [f32],
 ) -> CSized
-    ensures { λ r. ⌜ cAligned r (now (sizes .exit)) (now (offsets .exit)) ≡ linesFromC (linesCall (numbersOf c) «align_content» (now (lines .entry)) (now (sizes .entry)) (now (offsets .entry))) ⌝ }
+    ensures { λ r. ⌜ cAligned r (now (sizes .exit)) (now (offsets .exit)) ≡ linesFromC (linesCall c «align_content» (now (lines .entry)) (now (sizes .entry)) (now (offsets .entry))) ⌝ }
 {
-    lines_to_c(crosscalls::line_call::place_lines(
-        numbers_of(c),
-        align_content,
-        lines,
-        sizes,
-        offsets,
-    ))
+    lines_to_c(crosscalls::line_call::place_lines(c, align_content, lines, sizes, offsets))
 }
 
 #[no_mangle]

@@ -6,7 +6,8 @@ ghost use Prim.Native.Nat.{_+_, _*_, _<_, _≤_, min};
 ghost use lib.ListN.{length, take, drop};
 ghost use Rattle.records.specs.Items.{numbersIn, codesIn, stored, numbersOf, codesOf};
 
-// An item: fourteen numbers and eight codes, each read as the pass reads its column. A flag is a code: 0 no, else yes.
+// An item: fourteen numbers and eight codes, each read as the pass reads its column. A flag is a code: 0 no, 1 yes; the pass refuses
+// any other.
 #[repr(C)]
 pub struct Item {
     pub main_base: f32,

@@ -7,7 +7,7 @@ use lib.Ieee.{Float}
 use denote.Ref.{now}
 use Rattle.sizelines.specs.Sizes.{crossSizes}
 use Rattle.container.specs.Columns.{crossItems}
-use Rattle.crossstage.specs.CrossStage.{crossAxis}
+use Rattle.container.specs.Container.{crossAxis}
 use Rattle.crossstage.proofs.CrossLaws.{aligned-as, asked-are, front-long}
 use borrow.Author.Needs.{needs}
 use Rattle.crossstage.proofs.align_sized.Statement.{statement}

@@ -6,9 +6,6 @@ use borrow.Author.Needs.{needs}
 use Rattle.placeexports.proofs.fratolivem_line_size.Statement.{statement}
 use Rattle.placeexports.proofs.fratolivem_line_size.Tie as tie
 
-numbers-of-requires : tie.Need-numbers-of-requires
-numbers-of-requires c κs = search needs
-
 size-line-requires : tie.Need-size-line-requires
 size-line-requires c κs = search needs
 
@@ -17,10 +14,10 @@ line-to-c-requires c κs = search needs
 
 returns : tie.Need-returns
 returns c =
-    let a = c .before .before .before .before .before .before .before .before .before .before .before .before .args in
+    let a = c .before .before .before .before .before .before .before .before .before .before .before .args in
     size-told (a .c) (items (now (a .measured)) (now (a .minimum)) (now (a .maximum)) (now (a .has-maximum)) (now (a .edges)) (now (a .start)) (now (a .end)) (now (a .auto-start)) (now (a .auto-end)))
-    (c .before .before .numbers-of .ensures) (c .before .size-line .ensures) (c .line-to-c .ensures)
+    (c .before .size-line .ensures) (c .line-to-c .ensures)
 
 pub fratolivem-line-size-spec : {M : Type 1} → statement M
 fratolivem-line-size-spec =
-    tie.close (tie.spec numbers-of-requires size-line-requires line-to-c-requires returns)
+    tie.close (tie.spec size-line-requires line-to-c-requires returns)

@@ -5,9 +5,6 @@ use borrow.Author.Needs.{needs}
 use Rattle.placeexports.proofs.fratolivem_place_lines.Statement.{statement}
 use Rattle.placeexports.proofs.fratolivem_place_lines.Tie as tie
 
-numbers-of-requires : tie.Need-numbers-of-requires
-numbers-of-requires c κs = search needs
-
 place-lines-requires : tie.Need-place-lines-requires
 place-lines-requires c κs = search needs
 
@@ -22,15 +19,13 @@ same-length-2 c = search needs
 
 returns : tie.Need-returns
 returns c =
-    let a = c .before .before .before .before .before .before .before .before .before .before .before .before .args in
-    lines-told (a .c) (a .align-content) (now (a .lines)) (now (a .sizes)) (now (a .offsets)) (c .before .before .before .before .before .before .before .before .numbers-of .ensures)
-    (c .before .before .before .before .before .place-lines .ensures) (c .lines-to-c .ensures)
+    let a = c .before .before .before .before .before .before .before .before .before .before .before .args in
+    lines-told (a .c) (a .align-content) (now (a .lines)) (now (a .sizes)) (now (a .offsets)) (c .before .before .before .before .before .place-lines .ensures) (c .lines-to-c .ensures)
 
 pub fratolivem-place-lines-spec : {M : Type 1} → statement M
 fratolivem-place-lines-spec =
     tie.close
     (tie.spec
-    numbers-of-requires
     place-lines-requires
     lines-to-c-requires
     same-length

@@ -5,10 +5,10 @@ use native.Mathlib.Omega.{arith}
 use denote.Ref.{now}
 use Rattle.crossstage.proofs.CrossLaws.{frame, front-long, inside-of, written-room, written-long, items-across}
 use borrow.Author.Needs.{needs}
-use Rattle.crossstage.proofs.place_across.Statement.{statement}
-use Rattle.crossstage.proofs.place_across.Tie as tie
-use Rattle.crossstage.proofs.place_across.Reads as reads
-use Rattle.crossstage.proofs.place_across.Lts as lts
+use Rattle.crossstage.proofs.items_across.Statement.{statement}
+use Rattle.crossstage.proofs.items_across.Tie as tie
+use Rattle.crossstage.proofs.items_across.Reads as reads
+use Rattle.crossstage.proofs.items_across.Lts as lts
 use Rattle.container.proofs.columns.store_four.Reads as store-four-reads
 use Rattle.crossstage.proofs.across_lines.Reads as across-lines-reads
 
@@ -76,8 +76,8 @@ returns c = let s = c .before .before .before .before .before .before .before .b
     let f = c .before .before .before .before .before .before .before .before .before .before .before .before .across-lines in
     items-across (a .c) (a .n) (now (a .numbers)) (now (a .codes)) (now (a .counts)) (s .pre .0 .listed .few) (f .kept .1 .1 .1 .1 .1 .1 .0) (f .kept .1 .1 .1 .1 .1 .1 .1 .0) (f .kept .1 .1 .1 .1 .1 .1 .1 .1 .0) (f .kept .1 .1 .1 .1 .1 .1 .1 .1 .1 .0) (f .ensures) (c .before .before .store-four .ensures)
 
-pub place-across-spec : {M : Type 1} → statement M
-place-across-spec =
+pub items-across-spec : {M : Type 1} → statement M
+items-across-spec =
     tie.close
     (tie.spec
     array-borrow-prefix-sizes

@@ -6,10 +6,10 @@ use lib.ListN.{length}
 use denote.Ref.{now}
 use Rattle.crossstage.proofs.CrossLaws.{frame, front-long, inside-of, written-room, written-long, lines-placed}
 use borrow.Author.Needs.{needs}
-use Rattle.crossstage.proofs.place_lines.Statement.{statement}
-use Rattle.crossstage.proofs.place_lines.Tie as tie
-use Rattle.crossstage.proofs.place_lines.Reads as reads
-use Rattle.crossstage.proofs.place_lines.Lts as lts
+use Rattle.crossstage.proofs.lines_along.Statement.{statement}
+use Rattle.crossstage.proofs.lines_along.Tie as tie
+use Rattle.crossstage.proofs.lines_along.Reads as reads
+use Rattle.crossstage.proofs.lines_along.Lts as lts
 use Rattle.container.proofs.columns.store_column.Reads as store-column-reads
 use Rattle.crossstage.proofs.align_sized.Reads as align-sized-reads
 
@@ -57,8 +57,8 @@ returns c = let s = c .before .before .before .before .before .before .before .b
     let f = c .before .before .before .before .before .before .before .before .before .before .before .before .align-sized in
     lines-placed (a .c) (a .n) (now (a .numbers)) (now (a .codes)) (now (a .counts)) (s .pre .0 .listed .few) (f .kept .1 .1 .1 .1 .1 .0) (f .kept .1 .1 .1 .1 .1 .1 .0) (f .ensures) (c .before .before .before .before .before .before .before .store-column .ensures) (c .before .before .store-column2 .ensures)
 
-pub place-lines-spec : {M : Type 1} → statement M
-place-lines-spec =
+pub lines-along-spec : {M : Type 1} → statement M
+lines-along-spec =
     tie.close
     (tie.spec
     array-borrow-prefix-sizes
