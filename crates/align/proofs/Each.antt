@@ -9,8 +9,8 @@ use lib.Dec.{eqb}
 use lib.ListN.{length, getD, set, drop, length-append, length-drop}
 use lib.Seq.{drop-cons, set-at}
 use lib.Ieee.{Float}
-use Rattle.align.specs.Align.{_⊕_, nought}
-use Rattle.align.specs.Lists.{total, each, overwritten}
+use Rattle.grid.specs.Floats.{_⊕_, nought, each}
+use Rattle.align.specs.Lists.{total, overwritten}
 use Rattle.align.specs.Axis.{autos}
 
 -- ---- a sum

@@ -7,9 +7,9 @@ use lib.Ieee.{Float, ofBits, le, lt}
 use Rattle.align.specs.declared.Position.the-variants.{FlexStart, Center}
 use Rattle.align.specs.declared.Distribution.{Distribution}
 use Rattle.align.specs.declared.Distribution.the-variants.{SpaceBetween, SpaceAround}
-use Rattle.align.specs.declared.ContentAlignment.{ContentAlignment}
 use Rattle.align.specs.declared.ContentAlignment.the-variants.{Safe, Spread}
-use Rattle.align.specs.Align.{nought, fallbackOf, fallback}
+use Rattle.grid.specs.Floats.{nought}
+use Rattle.align.specs.Align.{fallbackOf, fallback}
 
 -- three items and no free space: "when free ≤ 0"
 at-0 : (fallback nought 3 (Spread SpaceBetween) ≡ Safe FlexStart) × (fallback nought 3 (Spread SpaceAround) ≡ Safe Center)

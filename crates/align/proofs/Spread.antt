@@ -1,10 +1,11 @@
 -- P14 of document 01, and a line of each other keyword beside its neighbour, on either direction: the definitions compute. Assumes nothing.
 use mathlib.Core.Path.{_≡_, refl}
 use mathlib.Core.Bool.{Bool, true, false}
-use mathlib.Core.List.{List, [], _∷_, map}
+use mathlib.Core.List.{List, [], _∷_}
 use Prim.Native.Nat.{ℕ}
-use lib.Ieee.{Float, binary32, ofInt, ofBits, add, div, le, lt}
-use Rattle.align.specs.Align.{contentOf, fallback, madeSafe, positioned, firstOffset, laterOffset, counted, nought}
+use lib.Ieee.{ofInt, ofBits, add, div, le, lt}
+use Rattle.grid.specs.Floats.{counted}
+use Rattle.align.specs.Align.{contentOf, fallback, madeSafe, positioned, firstOffset, laterOffset}
 
 -- free, gap, items, the keyword's code, reversed; the first offset and the later ones
 record Case : Type 0 where

@@ -1,12 +1,12 @@
 -- Document 01, "Main axis": the alignment keywords, their fallback, and the offsets that they give, on either axis. Every operation is one of f32,
 -- rounded once. Assumes nothing.
-use mathlib.Core.Bool.{Bool, true, false, cond, _||_}
+use mathlib.Core.Bool.{Bool, cond, _||_}
 use mathlib.Core.List.{List, [], _∷_}
 use Prim.Native.Nat.{ℕ, _+_, _-_}
 use lib.Dec.{ltb, leb}
 use lib.ListN.{getD}
-use lib.IntN.{pos}
-use lib.Ieee.{Float, binary32, add, sub, mul, div, le, lt, ofInt, ofBits}
+use lib.Ieee.{Float, le, lt}
+use Rattle.grid.specs.Floats.{_⊕_, _⊘_, nought, two, counted}
 use Rattle.align.specs.declared.Position.{Position}
 use Rattle.align.specs.declared.Position.the-variants.{Start, End, FlexStart, FlexEnd, Center}
 use Rattle.align.specs.declared.Distribution.{Distribution}
@@ -18,34 +18,6 @@ use Rattle.align.specs.declared.SelfAlignment.the-variants as self
 use Rattle.align.specs.declared.Resolved.{Resolved}
 use Rattle.align.specs.declared.Resolved.the-variants.{At}
 use Rattle.align.specs.declared.Resolved.the-variants as resolved
-
--- ---- f32
-
-infixl 65 _⊕_
-infixl 65 _⊖_
-infixl 70 _⊗_
-infixl 70 _⊘_
-abbrev pub _⊕_ : Float → Float → Float
-x ⊕ y = add binary32 x y
-
-abbrev pub _⊖_ : Float → Float → Float
-x ⊖ y = sub binary32 x y
-
-abbrev pub _⊗_ : Float → Float → Float
-x ⊗ y = mul binary32 x y
-
-abbrev pub _⊘_ : Float → Float → Float
-x ⊘ y = div binary32 x y
-
--- 0.0 and 2.0, by their bits; a count as a float
-abbrev pub nought : Float
-nought = ofBits binary32 0
-
-abbrev pub two : Float
-two = ofBits binary32 1073741824
-
-abbrev pub counted : ℕ → Float
-counted n = ofInt binary32 (pos n)
 
 -- ---- the keywords by their codes
 

@@ -1,18 +1,13 @@
 -- What both axes share: gaps, margins that may be auto, and offsets in the order of the walk. Assumes nothing.
-use mathlib.Core.Bool.{Bool, true, false, cond}
-use mathlib.Core.List.{List, [], _∷_}
+use mathlib.Core.Bool.{Bool, cond}
+use mathlib.Core.List.{List}
 use Prim.Native.Nat.{ℕ, zero, suc, _+_, _-_}
 use lib.Dec.{eqb}
 use lib.ListN.{getD}
 use lib.Ieee.{Float, nan}
 use Rattle.grid.specs.Grid.{cleaned}
 use Rattle.align.specs.declared.ContentAlignment.{ContentAlignment}
-use Rattle.align.specs.Align.{_⊕_, _⊗_, nought, counted, fallback, madeSafe, firstOffset, laterOffset}
-
--- "gap × (n−1), 0 for no items"
-unfoldable pub gaps : Float → ℕ → Float
-gaps gap zero = nought
-gaps gap (suc k) = gap ⊗ counted k
+use Rattle.align.specs.Align.{fallback, madeSafe, firstOffset, laterOffset}
 
 -- a margin, or the share of an auto one, whose code is not 0; "-0.0 reads as 0"
 unfoldable pub margin : Float → ℕ → Float → Float

@@ -1,19 +1,14 @@
 -- Sums and lists over the items 0, 1, .. below n. Assumes nothing.
-use mathlib.Core.List.{List, [], _∷_, _++_}
+use mathlib.Core.List.{List, _++_}
 use Prim.Native.Nat.{ℕ, zero, suc}
 use lib.ListN.{drop}
 use lib.Ieee.{Float}
-use Rattle.align.specs.Align.{_⊕_, nought}
+use Rattle.grid.specs.Floats.{_⊕_, nought, each}
 
 -- "Every sum runs from item 0 upward", on top of 0.0
 unfoldable pub total : (ℕ → Float) → ℕ → Float
 total f zero = nought
 total f (suc n) = total f n ⊕ f n
-
--- f 0, f 1, .. up to f (n − 1)
-unfoldable pub each : {A : Type 0} → ℕ → (ℕ → A) → List A
-each zero f = []
-each (suc n) f = each n f ++ (f n ∷ [])
 
 -- lent cells whose first n are f's, and the others as they were
 abbrev pub overwritten : {A : Type 0} → ℕ → (ℕ → A) → List A → List A

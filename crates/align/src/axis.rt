@@ -4,7 +4,8 @@ ghost use mathlib.Core.Path.{_≡_};
 ghost use Prim.Native.Nat.{_≤_, _<_};
 ghost use lib.ListN.{length};
 ghost use Rattle.align.specs.Lists.{overwritten};
-ghost use Rattle.align.specs.Axis.{gaps, margin, marginAt, walked, stepped, offsets};
+ghost use Rattle.grid.specs.Floats.{gaps};
+ghost use Rattle.align.specs.Axis.{margin, marginAt, walked, stepped, offsets};
 use crate::ContentAlignment;
 
 // The gaps between n neighbours.

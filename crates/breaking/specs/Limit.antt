@@ -1,8 +1,10 @@
 -- Document 01, "Break limit (first leaf)". Floats are only compared and picked here, never rounded. Assumes nothing.
 use mathlib.Core.Bool.{Bool, cond, _||_}
 use mathlib.Core.List.{List, [], _∷_, _++_}
-use lib.Ieee.{Float, lt}
+use Prim.Native.Nat.{ℕ, zero, suc}
+use lib.Ieee.{Float}
 use Rattle.grid.specs.Grid.{cleaned}
+use Rattle.grid.specs.Floats.{lowered, raised}
 use Rattle.refusal.specs.Domain.{Number, float, Input, checked}
 use Rattle.refusal.specs.declared.Kind.the-variants.{Length, Size}
 use Rattle.refusal.specs.declared.Verdict.{Verdict}
@@ -17,12 +19,11 @@ use Rattle.breaking.specs.declared.BreakLimit.{BreakLimit}
 use Rattle.breaking.specs.declared.BreakLimit.the-variants.{Limit}
 use Rattle.breaking.specs.declared.BreakLimit.the-variants as limit
 
--- x, or y where x is above it; x, or y where x is below it
-abbrev pub lowered : Float → Float → Float
-lowered x y = cond (lt y x) y x
-
-abbrev pub raised : Float → Float → Float
-raised x y = cond (lt x y) y x
+-- limit kinds: 0 definite, 1 min-content, 2 max-content; the number is read only under 0
+abbrev pub spaceOf : ℕ → Float → AvailableSpace
+spaceOf zero x = Definite x
+spaceOf (suc zero) x = MinContent
+spaceOf (suc (suc k)) x = MaxContent
 
 -- "raise it to the minimum if given"
 abbrev pub raisedTo : Bound → Float → Float

@@ -7,7 +7,8 @@ ghost use lib.IntN.{ℤ};
 ghost use Rattle.grid.specs.Grid.{At, sixtyFourths};
 ghost use Rattle.refusal.specs.Domain.{Number};
 ghost use Rattle.refusal.specs.Marks.{leastOf};
-ghost use Rattle.breaking.specs.Limit.{lowered, raised, raisedTo, numberOr, underMaximum, keepsSpace, withoutMaximum, byMaximum, breakLimit, spaceNumbers, boundNumbers, limitVerdict, limitCall};
+ghost use Rattle.grid.specs.Floats.{lowered, raised};
+ghost use Rattle.breaking.specs.Limit.{spaceOf, raisedTo, numberOr, underMaximum, keepsSpace, withoutMaximum, byMaximum, breakLimit, spaceNumbers, boundNumbers, limitVerdict, limitCall};
 ghost use Rattle.breaking.specs.Breaking.{limitOf, fits, greedy};
 ghost use Rattle.breaking.specs.Calls.{breakingVerdict, units, broken, greedyCall};
 ghost use Rattle.breaking.specs.Steps.{LengthLimit, Breakable, LineEnd, Counted, Listed, cleared};
@@ -43,6 +44,19 @@ pub struct Query {
 pub enum BreakLimit {
     Limit(AvailableSpace),
     Refused(Refusal),
+}
+
+// The space that a kind names, as hosts and the container say it. A kind above 2 is refused before.
+pub fn space_of(kind: u32, limit: f32) -> AvailableSpace
+    ensures { λ r. ⌜ r ≡ spaceOf kind limit ⌝ }
+{
+    if kind == 0 {
+        return AvailableSpace::Definite(limit);
+    }
+    if kind == 1 {
+        return AvailableSpace::MinContent;
+    }
+    AvailableSpace::MaxContent
 }
 
 pub fn lower(x: f32, y: f32) -> f32

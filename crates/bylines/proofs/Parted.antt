@@ -1,18 +1,19 @@
 -- A walk over the lines that writes each line's part of a lent list: those written outlive the later ones, by the order of their ranges. Assumes nothing.
 use mathlib.Core.Path.{_≡_, refl, sym, ap, ap₂, _∙_, subst}
-use mathlib.Core.List.{List, [], _∷_, _++_}
-use Prim.Native.Nat.{ℕ, zero, suc, _+_, _-_, _≤_, _<_}
+use mathlib.Core.List.{List, [], _++_}
+use Prim.Native.Nat.{ℕ, _+_, _-_, _≤_, _<_}
 use native.Mathlib.Nat.{le-antisymm}
 use native.Mathlib.Omega.{arith}
 use lib.ListN.{length, getD, take, drop, take-append-drop, drop-of-length-le}
-use lib.Seq.{take-add, take-take, take-at, drop-at, drop-nil, drop-drop, length-take-le}
-use borrow.Rule.Slice.PartMut.{midOf, putMid, postOf, same-len-mid, mid-len, take-put, drop-put}
-use Rattle.refusal.specs.Marks.{sumUpTo}
+use lib.Seq.{drop-nil}
+use borrow.Rule.Slice.PartMut.{midOf, putMid, same-len-mid, mid-len, drop-put}
 use Rattle.refusal.proofs.Sweep.{sum-none, sum-more}
-use Rattle.flexlines.specs.Lines.{lineStart}
-use Rattle.flexlines.proofs.Going.{ends-before}
-use Rattle.align.specs.Lists.{overwritten, each}
-use Rattle.bylines.specs.Parts.{part, Division, Past}
+use Rattle.flexlines.specs.Lines.{lineStart, part}
+use Rattle.flexlines.proofs.Going.{ends-before, other-cells, own-cells, later}
+use Rattle.flexlines.proofs.Alone.{by-parts}
+use Rattle.grid.specs.Floats.{each}
+use Rattle.align.specs.Lists.{overwritten}
+use Rattle.bylines.specs.Parts.{Division, Past}
 
 -- ---- the ranges
 
@@ -39,27 +40,6 @@ module _ {A : Type 0} where
   lent-is {counts} {from} {to} {j} h l =
       let e : to - from ≡ getD counts j 0 = omega (arith, h .ends) in
       ap₂ (λ (a b : ℕ). take a (drop b l)) e (h .starts)
-
-  part-of : (s c a : ℕ) (l : List A) → s + c ≤ a → s ≤ length l → take c (drop s l) ≡ drop s (take (s + c) (take a l))
-  part-of s c a l h k = sym (ap (λ (x : List A). drop s x) (take-take (s + c) a l h ∙ take-add s c l) ∙ drop-at (take s l) (take c (drop s l)) s (length-take-le s l k))
-
-  -- those of an earlier line are as they were, and those of this one are its part
-  other-cells : (s c a e : ℕ) (l cells : List A) → s + c ≤ a → a ≤ e → e ≤ length l → length cells ≡ e - a → take c (drop s (putMid a (e - a) l cells)) ≡ take c (drop s l)
-  other-cells s c a e l cells h k r q =
-      let m = same-len-mid a (e - a) l cells (q ∙ sym (mid-len a e l r)) in
-      part-of s c a (putMid a (e - a) l cells) h (omega (arith, m))
-      ∙ ap (λ (x : List A). drop s (take (s + c) x)) (take-put a (e - a) l cells (omega arith))
-      ∙ sym (part-of s c a l h (omega arith))
-
-  own-cells : (a c e : ℕ) (l cells : List A) → e ≡ a + c → e ≤ length l → length cells ≡ e - a → take c (drop a (putMid a (e - a) l cells)) ≡ cells
-  own-cells a c e l cells h r q =
-      ap (λ (x : List A). take c x) (drop-at (take a l) (cells ++ postOf a (e - a) l) a (length-take-le a l (omega arith)))
-      ∙ take-at cells (postOf a (e - a) l) c (omega arith)
-
-  later : (a e : ℕ) (l m : List A) → a ≤ e → drop a l ≡ drop a m → drop e l ≡ drop e m
-  later a e l m h p =
-      let k : a + (e - a) ≡ e = omega arith in
-      sym (drop-drop (e - a) a l ∙ ap (λ (i : ℕ). drop i l) k) ∙ ap (λ (x : List A). drop (e - a) x) p ∙ drop-drop (e - a) a m ∙ ap (λ (i : ℕ). drop i m) k
 
 -- ---- the walk
 
@@ -116,19 +96,6 @@ module _ {A : Type 0} (counts : List ℕ) where
 -- a stage that writes all cells of a line keeps none of those before it
 pub all-cells : {A : Type 0} {n : ℕ} (f : ℕ → A) (old : List A) → length old ≤ n → overwritten n f old ≡ overwritten n f []
 all-cells {A} {n} f old h = ap (λ (l : List A). each n f ++ l) (drop-of-length-le old {i = n} h ∙ sym (drop-nil n))
-
--- the first k lines
-by-parts : {A : Type 0} (counts : List ℕ) (k : ℕ) (a b : List A) → ((j : ℕ) → j < k → part counts j a ≡ part counts j b) → take (lineStart counts k) a ≡ take (lineStart counts k) b
-unfolding sumUpTo
-by-parts {A} counts zero a b h = nothing a ∙ sym (nothing b)
-  where
-    nothing : (l : List A) → take 0 l ≡ []
-    nothing [] = refl
-    nothing (x ∷ l) = refl
-by-parts {A} counts (suc k) a b h =
-    take-add (lineStart counts k) (getD counts k 0) a
-    ∙ ap₂ (λ (x y : List A). x ++ y) (by-parts counts k a b (λ j l. h j (omega arith))) (h k (omega arith))
-    ∙ sym (take-add (lineStart counts k) (getD counts k 0) b)
 
 -- every item lies in a line: lists whose parts are the same, and which are as they were past the items, are the same
 pub same-parts : {A : Type 0} (counts : List ℕ) {n : ℕ} (old a b : List A) → Division counts n → Past n old a → Past n old b → ((j : ℕ) → j < length counts → part counts j a ≡ part counts j b) → a ≡ b

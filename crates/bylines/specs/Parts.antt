@@ -1,13 +1,9 @@
--- A line's part of a list by item, and what a walk over the lines leaves of a lent list. Assumes nothing.
+-- What the walks over the lines share: lines that have all items, and what a walk leaves of a lent list. Assumes nothing.
 use mathlib.Core.Path.{_≡_}
 use mathlib.Core.List.{List}
 use Prim.Native.Nat.{ℕ}
-use lib.ListN.{length, getD, take, drop}
+use lib.ListN.{length, drop}
 use Rattle.flexlines.specs.Lines.{lineStart}
-
--- line j's part of a list, by the items that each line has
-abbrev pub part : {A : Type 0} → List ℕ → ℕ → List A → List A
-part counts j l = take (getD counts j 0) (drop (lineStart counts j) l)
 
 -- the lines have n items in all
 abbrev pub Division : List ℕ → ℕ → Type 0

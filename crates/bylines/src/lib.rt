@@ -1,1 +1,1 @@
-// No code: specs/Parts.antt says what a line's part of a list is, and proofs/ what a walk over the lines leaves of a list that it writes part by part.
+// No code: specs/Parts.antt says what a walk over the lines leaves of a lent list, and proofs/ that one which writes it line by line leaves just that.

@@ -4,7 +4,7 @@ use Prim.Native.Nat.{ℕ, _*_}
 use lib.ListN.{take, drop, replicate}
 use lib.Ieee.{Float}
 use Rattle.flexing.specs.Items.{Lists, lists}
-use Rattle.align.specs.Align.{nought}
+use Rattle.grid.specs.Floats.{nought}
 use Rattle.mainaxis.specs.MainAxis.{Line, line}
 use Rattle.linesize.specs.CrossSize.{Items, items}
 

@@ -1,20 +1,13 @@
 -- The container of the pass, one struct of numbers: what it says of the limit, the direction and the cross axis. Assumes nothing.
 use mathlib.Core.Bool.{Bool, _||_}
-use Prim.Native.Nat.{ℕ, zero, suc}
+use Prim.Native.Nat.{ℕ}
 use lib.Dec.{eqb}
-use lib.Ieee.{Float}
 use Rattle.breaking.specs.declared.AvailableSpace.{AvailableSpace}
-use Rattle.breaking.specs.declared.AvailableSpace.the-variants.{Definite, MinContent, MaxContent}
+use Rattle.breaking.specs.Limit.{spaceOf}
 use Rattle.linesize.specs.declared.container.Cross.{Cross}
 use Rattle.crosschecks.specs.declared.numbers.CrossNumbers.{CrossNumbers}
 use Rattle.crosschecks.specs.Numbers.{crossOf}
 use Rattle.container.specs.declared.Container.{Container}
-
--- limit kinds: 0 definite, 1 min-content, 2 max-content; the number is read only under 0
-abbrev pub spaceOf : ℕ → Float → AvailableSpace
-spaceOf zero x = Definite x
-spaceOf (suc zero) x = MinContent
-spaceOf (suc (suc k)) x = MaxContent
 
 abbrev pub limitOf : Container → AvailableSpace
 limitOf c = spaceOf (c .«limit_kind») (c .limit)

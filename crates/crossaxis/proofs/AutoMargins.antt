@@ -2,7 +2,7 @@
 use mathlib.Core.Path.{_≡_, refl, sym, ap}
 use mathlib.Core.Bool.{Bool, true, false, cond, _&&_}
 use lib.Ieee.{Float, ofInt, ofBits, sub, div}
-use Rattle.align.specs.Align.{_⊖_, _⊘_, nought, two, counted}
+use Rattle.grid.specs.Floats.{_⊖_, _⊘_, nought, two, counted}
 use Rattle.linesize.specs.declared.cross_size.CrossItem.{CrossItem}
 use Rattle.crossaxis.specs.CrossAxis.{autoMargin}
 

@@ -1,16 +1,15 @@
 -- Lines along the cross axis from the steps that stretch and place them, put together. Assumes nothing.
-use mathlib.Core.Path.{_≡_, refl, sym, ap, ap₂, _∙_}
+use mathlib.Core.Path.{_≡_, ap, ap₂, _∙_}
 use mathlib.Core.Bool.{Bool}
 use mathlib.Core.List.{List}
-use Prim.Native.Nat.{ℕ}
 use lib.ListN.{length}
 use lib.Ieee.{Float}
 use Rattle.grid.specs.Grid.{cleaned}
 use Rattle.align.specs.declared.ContentAlignment.{ContentAlignment}
 use Rattle.linesize.specs.declared.container.Cross.{Cross}
-use Rattle.align.specs.Align.{_⊕_, _⊖_, nought}
+use Rattle.grid.specs.Floats.{_⊕_, _⊖_, nought, gaps}
 use Rattle.align.specs.Lists.{total, overwritten}
-use Rattle.align.specs.Axis.{gaps, offsets}
+use Rattle.align.specs.Axis.{offsets}
 use Rattle.linesize.specs.Container.{innerSize, orBounded, isReversed}
 use Rattle.crossaxis.specs.Lines.{gain, grownAt, lineGain, containerSize, freeCross, Along}
 

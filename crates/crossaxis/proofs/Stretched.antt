@@ -8,9 +8,8 @@ use Rattle.align.specs.declared.ContentAlignment.the-variants.{Spread}
 use Rattle.breaking.specs.declared.Bound.the-variants.{Absent, Given}
 use Rattle.linesize.specs.declared.container.Wrap.the-variants as wrap
 use Rattle.linesize.specs.declared.container.Cross.{Cross}
-use Rattle.align.specs.Align.{counted}
+use Rattle.grid.specs.Floats.{counted, gaps}
 use Rattle.align.specs.Lists.{total}
-use Rattle.align.specs.Axis.{gaps}
 use Rattle.linesize.specs.Container.{bounded}
 use Rattle.crossaxis.specs.Lines.{gainTo, gain, grown, grownAt, lineGain}
 

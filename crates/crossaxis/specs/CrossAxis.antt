@@ -10,7 +10,8 @@ use Rattle.align.specs.declared.SelfAlignment.{SelfAlignment}
 use Rattle.align.specs.declared.SelfAlignment.the-variants.{Unsafe, Safe, Stretch}
 use Rattle.linesize.specs.declared.cross_size.CrossItem.{CrossItem}
 use Rattle.crossaxis.specs.declared.cross_axis.CrossPlace.{CrossPlace}
-use Rattle.align.specs.Align.{_⊕_, _⊖_, _⊘_, nought, two, selfOf, selfOffset}
+use Rattle.grid.specs.Floats.{_⊕_, _⊖_, _⊘_, nought, two}
+use Rattle.align.specs.Align.{selfOf, selfOffset}
 use Rattle.align.specs.Lists.{overwritten}
 use Rattle.linesize.specs.CrossSize.{clamp, hypothetical, margins, Items, count, Even, itemAt, yes}
 

@@ -12,9 +12,9 @@ use Rattle.align.specs.declared.ContentAlignment.the-variants.{Unsafe, Safe, Sp
 use Rattle.breaking.specs.declared.Bound.{Bound}
 use Rattle.breaking.specs.declared.Bound.the-variants.{Absent, Given}
 use Rattle.linesize.specs.declared.container.Cross.{Cross}
-use Rattle.align.specs.Align.{_⊕_, _⊖_, _⊘_, nought, counted}
+use Rattle.grid.specs.Floats.{_⊕_, _⊖_, _⊘_, nought, counted, gaps}
 use Rattle.align.specs.Lists.{total, overwritten}
-use Rattle.align.specs.Axis.{gaps, offsets}
+use Rattle.align.specs.Axis.{offsets}
 use Rattle.linesize.specs.Container.{readCross, innerSize, orBounded, isReversed}
 
 -- "Under stretch"

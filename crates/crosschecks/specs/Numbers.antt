@@ -1,5 +1,5 @@
 -- The cross axis in numbers: how the container's are read, and what a call checks of them and of a line's items. Assumes nothing.
-use mathlib.Core.Bool.{Bool, cond}
+use mathlib.Core.Bool.{cond}
 use mathlib.Core.List.{List, [], _∷_, _++_}
 use Prim.Native.Nat.{ℕ}
 use lib.Dec.{eqb}

@@ -9,10 +9,10 @@ use lib.ListN.{length, getD}
 use lib.Ieee.{Float, nan}
 use borrow.Author.Count.{below-none, below-more}
 use borrow.Rule.Slice.PartMut.{midOf, putMid, mid-len}
-use Rattle.flexlines.specs.Lines.{lineStart}
-use Rattle.linesize.specs.CrossSize.{Items, items, count}
+use Rattle.flexlines.specs.Lines.{lineStart, part}
+use Rattle.linesize.specs.CrossSize.{Items, count}
 use Rattle.crossaxis.specs.CrossAxis.{Sorted, Room, Across}
-use Rattle.bylines.specs.Parts.{part, Division}
+use Rattle.bylines.specs.Parts.{Division}
 use Rattle.sizelines.specs.Sizes.{crossLine}
 use Rattle.crosslines.specs.Cross.{AcrossReady, AcrossLines}
 use Rattle.bylines.proofs.Parted.{Here, start-none, start-next, ends-within, lent-is, Front, front-none, step, front-next, past-of, all-cells, same-parts}

@@ -6,7 +6,8 @@ use lib.ListN.{length, getD}
 use lib.Ieee.{Float, nan}
 use Rattle.linesize.specs.CrossSize.{Items, count}
 use Rattle.crossaxis.specs.CrossAxis.{Sorted, Room, Across}
-use Rattle.bylines.specs.Parts.{part, Division, Past}
+use Rattle.flexlines.specs.Lines.{part}
+use Rattle.bylines.specs.Parts.{Division, Past}
 use Rattle.sizelines.specs.Sizes.{crossLine}
 
 -- what the pass's checks show: the lines have the items of the lists, each line has a size, and there is room for the items

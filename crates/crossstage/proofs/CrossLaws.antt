@@ -1,7 +1,7 @@
 -- The parts of the cross axis put together: what each asks follows from what the pass has checked, and what it leaves in lists of its own is what the lent
 -- lists then hold. Assumes nothing.
 use mathlib.Core.Path.{_≡_, refl, sym, ap, _∙_, subst}
-use mathlib.Core.Logic.{inl, inr}
+use mathlib.Core.Logic.{inl}
 use mathlib.Core.Bool.{Bool}
 use mathlib.Core.List.{List, [], _∷_, _++_}
 use Prim.Native.Nat.{ℕ, zero, suc, _+_, _*_, _≤_, _<_}
@@ -11,8 +11,7 @@ use lib.ListN.{length, take, drop, replicate, length-append}
 use lib.Seq.{length-take-le, take-at}
 use lib.Ieee.{Float}
 use Rattle.align.specs.declared.ContentAlignment.{ContentAlignment}
-use Rattle.align.specs.Align.{nought}
-use Rattle.align.specs.Lists.{each}
+use Rattle.grid.specs.Floats.{nought, each}
 use Rattle.linesize.specs.declared.container.Cross.{Cross}
 use Rattle.linesize.specs.CrossSize.{Items, lineOf}
 use Rattle.crossaxis.specs.Lines.{Aligned}
@@ -24,7 +23,6 @@ use Rattle.container.specs.Columns.{column, crossItems, alignSelf, autoSize, ze
 use Rattle.container.specs.Stages.{Inside, Stored, FourStored}
 use Rattle.container.proofs.ColumnLaws.{before}
 use Rattle.passchecks.proofs.Taken.{number-length, sorted-cross}
-use Rattle.container.specs.Container.{crossAxis}
 use Rattle.crossstage.specs.CrossStage.{Ready, AlignedLines, LinesPlaced, PlacedAcross, ItemsAcross}
 
 -- ---- what is asked

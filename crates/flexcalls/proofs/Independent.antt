@@ -16,7 +16,8 @@ use Rattle.refusal.specs.declared.Answer.the-variants.{Done, Refused}
 use Rattle.refusal.proofs.Checks.{accepted, then-passed}
 use Rattle.flexing.specs.declared.Item.{Item}
 use Rattle.flexing.specs.Flex.{outerSum}
-use Rattle.flexing.specs.Items.{Lists, count, each, itemAt, itemsOf}
+use Rattle.grid.specs.Floats.{each}
+use Rattle.flexing.specs.Items.{Lists, count, itemAt, itemsOf}
 use Rattle.flexlines.specs.Lines.{lineStart}
 use Rattle.flexchecks.specs.Counts.{linesShape, linesInput}
 use Rattle.flexcalls.specs.Lines.{roomOf, linesVerdict, FlexedByLine}

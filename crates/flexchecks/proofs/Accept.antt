@@ -22,7 +22,7 @@ use Rattle.refusal.specs.declared.Verdict.the-variants.{Passed}
 use Rattle.refusal.specs.declared.Verdict.the-variants as verdict
 use Rattle.refusal.proofs.Checks.{judged-checked, then-passed, fine-append, fine-size, fine-margin}
 use Rattle.refusal.proofs.Marked.{shaped}
-use Rattle.flexing.specs.Flex.{nought}
+use Rattle.grid.specs.Floats.{nought}
 use Rattle.flexing.specs.Items.{Lists, count, itemAt}
 use Rattle.flexchecks.specs.Input.{shapeOf, plainAt, inputOf}
 use Rattle.flexing.specs.Accepted.{Margin, Measured, Even}

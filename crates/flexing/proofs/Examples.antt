@@ -13,7 +13,8 @@ use lib.Ieee.{Float, inf, binary32, ofInt, ofBits, add, sub, neg, mul, div, lt, 
 use Rattle.grid.specs.Grid.{sixtyFourths, cleaned}
 use Rattle.flexing.specs.declared.Item.{Item}
 use Rattle.flexing.specs.declared.Line.{Line}
-use Rattle.flexing.specs.Flex.{Cell, Flexed, sumFrom, clamp, sumUnits, inflexible, left, gaps, limited, share, flexed, violation, freezes, settle, round, after, freeBefore, targets, lineOf, begun, unfrozen}
+use Rattle.grid.specs.Floats.{gaps}
+use Rattle.flexing.specs.Flex.{Cell, Flexed, sumFrom, clamp, sumUnits, inflexible, left, limited, share, flexed, violation, freezes, settle, round, after, freeBefore, targets, lineOf, begun, unfrozen}
 use Rattle.flexing.proofs.Falls.{rounds-one}
 
 unfoldable pub px : ℕ → Float

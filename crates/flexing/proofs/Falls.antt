@@ -11,7 +11,8 @@ use lib.ListN.{length}
 use lib.Ieee.{Float, lt}
 use Rattle.flexing.specs.declared.Line.{Line}
 use Rattle.flexing.specs.declared.Share.{Share}
-use Rattle.flexing.specs.Flex.{Cell, total, left, unfrozen, share, violation, freezes, settle, round, after, Runs, nought}
+use Rattle.grid.specs.Floats.{nought}
+use Rattle.flexing.specs.Flex.{Cell, total, left, unfrozen, share, violation, freezes, settle, round, after, Runs}
 use Rattle.flexing.proofs.Signs.{Not, All, above-none, none-above, below-none, none-below, not-total, not-nought}
 
 -- ---- one cell

@@ -20,7 +20,8 @@ use Rattle.grid.proofs.Meaning.{at-of-grid, grid-of-at, none-at}
 use Rattle.grid.proofs.Sums.{abs-add}
 use Rattle.grid.proofs.Convert.{ofInt-at, back32}
 use Rattle.flexing.specs.declared.Item.{Item}
-use Rattle.flexing.specs.Flex.{freeBefore, sumFrom, total, clamp, hypothetical, outer, outerUnits, sumUnits, outerSum, gaps, raised, lowered, nought, _⊕_}
+use Rattle.grid.specs.Floats.{gaps, raised, lowered, nought, _⊕_}
+use Rattle.flexing.specs.Flex.{freeBefore, sumFrom, total, clamp, hypothetical, outer, outerUnits, sumUnits, outerSum}
 use Rattle.flexing.specs.Accepted.{Measured, Every, Accepted}
 
 -- ---- the hypothetical size is one of the item's lengths

@@ -1,49 +1,20 @@
 -- Document 01, "Flexible lengths, CSS-FLEX 9.7", of one line, in the standard's order of steps. Items are as they are read: no number is -0.0,
 -- an auto margin is 0, and an absent maximum is infinite. "f32 throughout, each operation rounded once"; "Every sum runs from item 0 upward". Assumes nothing.
 use mathlib.Core.Path.{_≡_}
-use mathlib.Core.Bool.{Bool, true, false, cond, _&&_, _||_}
+use mathlib.Core.Bool.{Bool, true, cond, _&&_, _||_}
 use mathlib.Core.List.{List, [], _∷_, _++_, map}
 use Prim.Native.Nat.{ℕ, zero, suc, _+_, _-_, _≤_, _<_}
 use lib.ListN.{length, drop}
 use lib.IntN.{ℤ, pos, natAbs, _+ℤ_, _-ℤ_, _*ℤ_}
 use lib.Signed.{ltZ}
-use lib.Ieee.{Float, binary32, add, sub, mul, div, neg, lt, eq, ofInt, ofBits}
+use lib.Ieee.{Float, neg, lt, eq}
 use Rattle.grid.specs.Grid.{sixtyFourths, cleaned}
+use Rattle.grid.specs.Floats.{_⊕_, _⊖_, _⊗_, _⊘_, nought, unity, lowered, raised, gaps}
 use Rattle.flexing.specs.declared.Item.{Item}
 use Rattle.flexing.specs.declared.Line.{Line}
 use Rattle.flexing.specs.declared.Share.{Share}
 
 -- ---- f32
-
-infixl 65 _⊕_
-infixl 65 _⊖_
-infixl 70 _⊗_
-infixl 70 _⊘_
-abbrev pub _⊕_ : Float → Float → Float
-x ⊕ y = add binary32 x y
-
-abbrev pub _⊖_ : Float → Float → Float
-x ⊖ y = sub binary32 x y
-
-abbrev pub _⊗_ : Float → Float → Float
-x ⊗ y = mul binary32 x y
-
-abbrev pub _⊘_ : Float → Float → Float
-x ⊘ y = div binary32 x y
-
--- 0.0 and 1.0, by their bits
-abbrev pub nought : Float
-nought = ofBits binary32 0
-
-abbrev pub unity : Float
-unity = ofBits binary32 1065353216
-
--- x, raised to y where it is below; x, lowered to y where it is above
-abbrev pub raised : Float → Float → Float
-raised x y = cond (lt x y) y x
-
-abbrev pub lowered : Float → Float → Float
-lowered x y = cond (lt y x) y x
 
 abbrev pub magnitude : Float → Float
 magnitude x = cond (lt x nought) (neg x) x
@@ -126,11 +97,6 @@ begun inner gap items = map (first (grows inner gap items)) items
 -- "frozen targets and unfrozen bases, with margins"
 abbrev pub taken : Cell → Float
 taken c = outer (c .item) (cond (c .frozen) (c .target) (c .item .base))
-
--- "gap × (n−1), 0 for no items"
-unfoldable pub gaps : Float → ℕ → Float
-gaps gap zero = nought
-gaps gap (suc k) = gap ⊗ ofInt binary32 (pos k)
 
 -- "inner size less used space", which is the gaps plus the finished sum
 abbrev pub remaining : Float → Float → List Cell → Float

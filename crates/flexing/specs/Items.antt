@@ -1,13 +1,13 @@
 -- The items of a line, from the lists that a call takes (document 01, "Domain and refusal numbers"). Assumes nothing.
 use mathlib.Core.Bool.{false, cond}
-use mathlib.Core.List.{List, [], _∷_, _++_}
-use Prim.Native.Nat.{ℕ, zero, suc}
+use mathlib.Core.List.{List}
+use Prim.Native.Nat.{ℕ}
 use lib.Dec.{eqb}
 use lib.ListN.{length, getD}
 use lib.Ieee.{Float, nan, inf}
 use Rattle.grid.specs.Grid.{cleaned}
 use Rattle.flexing.specs.declared.Item.{Item}
-use Rattle.flexing.specs.Flex.{nought}
+use Rattle.grid.specs.Floats.{nought, each}
 
 -- ---- what a call takes: a list for each number of an item
 
@@ -53,11 +53,6 @@ itemAt ls i = record {
   start = readWhere (ls .start) (ls .auto-start) 0 nought i;
   end = readWhere (ls .end) (ls .auto-end) 0 nought i;
 }
-
--- f 0, f 1, .. up to f (n − 1)
-unfoldable pub each : {A : Type 0} → ℕ → (ℕ → A) → List A
-each zero f = []
-each (suc n) f = each n f ++ (f n ∷ [])
 
 abbrev pub itemsOf : Lists → List Item
 itemsOf ls = each (count ls) (itemAt ls)

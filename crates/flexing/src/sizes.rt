@@ -1,7 +1,8 @@
 // Every operation on numbers by value: those of one item, and the gaps and the free space of a line.
 ghost use mathlib.Core.Path.{_≡_};
 ghost use Prim.Native.Nat.{_≤_};
-ghost use Rattle.flexing.specs.Flex.{raised, lowered, magnitude, clamp, hypothetical, innerBase, outer, factor, weight, inflexible, flexed, violation, freezes, gaps, limited};
+ghost use Rattle.grid.specs.Floats.{raised, lowered, gaps};
+ghost use Rattle.flexing.specs.Flex.{magnitude, clamp, hypothetical, innerBase, outer, factor, weight, inflexible, flexed, violation, freezes, limited};
 use crate::Item;
 use crate::Share;
 

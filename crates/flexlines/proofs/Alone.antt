@@ -15,7 +15,7 @@ use borrow.Author.Tests.{ltb-true, ltb-false}
 use Rattle.refusal.specs.Marks.{sumUpTo}
 use Rattle.flexing.specs.declared.Item.{Item}
 use Rattle.flexing.proofs.Determined.{same-answer}
-use Rattle.flexlines.specs.Lines.{lineStart, lineItems, lineCells, Beyond, FlexedLines}
+use Rattle.flexlines.specs.Lines.{lineStart, lineItems, part, Beyond, FlexedLines}
 use Rattle.flexlines.proofs.Going.{sum-ext, flexed-as}
 
 -- ---- a line by itself
@@ -23,7 +23,7 @@ use Rattle.flexlines.proofs.Going.{sum-ext, flexed-as}
 pub record SameFlexed (counts counts' : List ℕ) (j j' : ℕ) (targets targets' : List Float) (free free' : List ℤ) (rounds rounds' : List ℕ) : Type 0 where
   pub free-same : getD free j (pos 0) ≡ getD free' j' (pos 0)
   pub rounds-same : getD rounds j 0 ≡ getD rounds' j' 0
-  pub targets-same : lineCells counts j targets ≡ lineCells counts' j' targets'
+  pub targets-same : part counts j targets ≡ part counts' j' targets'
 
 pub flexed-alone : {inner gap : Float} {item item' : ℕ → Item} {n n' : ℕ} {counts counts' : List ℕ} {sum sum' : ℕ} {t₀ t t₀' t' : List Float} {f₀ f f₀' f' : List ℤ} {r₀ r r₀' r' : List ℕ}
     → FlexedLines inner gap item n counts sum t₀ f₀ r₀ t f r → FlexedLines inner gap item' n' counts' sum' t₀' f₀' r₀' t' f' r'
@@ -51,17 +51,17 @@ by-line none k n old a b p q h = ext-getD none a b (p .long ∙ sym (q .long)) (
     below j (inr l) (inl m) = p .zeros j l m ∙ sym (q .zeros j l m)
     below j (inr l) (inr m) = p .kept j m ∙ sym (q .kept j m)
 
--- a list by item, by the cells of its lines
-by-cells : (counts : List ℕ) (k : ℕ) (a b : List Float) → ((j : ℕ) → j < k → lineCells counts j a ≡ lineCells counts j b) → take (lineStart counts k) a ≡ take (lineStart counts k) b
+-- a list by item, by its lines' parts
+pub by-parts : {A : Type 0} (counts : List ℕ) (k : ℕ) (a b : List A) → ((j : ℕ) → j < k → part counts j a ≡ part counts j b) → take (lineStart counts k) a ≡ take (lineStart counts k) b
 unfolding sumUpTo
-by-cells counts zero a b h = nothing a ∙ sym (nothing b)
+by-parts {A} counts zero a b h = nothing a ∙ sym (nothing b)
   where
-    nothing : (l : List Float) → take 0 l ≡ []
+    nothing : (l : List A) → take 0 l ≡ []
     nothing [] = refl
     nothing (x ∷ l) = refl
-by-cells counts (suc k) a b h =
+by-parts {A} counts (suc k) a b h =
     take-add (lineStart counts k) (getD counts k 0) a
-    ∙ ap₂ (λ (x y : List Float). x ++ y) (by-cells counts k a b (λ j l. h j (omega arith))) (h k (omega arith))
+    ∙ ap₂ (λ (x y : List A). x ++ y) (by-parts counts k a b (λ j l. h j (omega arith))) (h k (omega arith))
     ∙ sym (take-add (lineStart counts k) (getD counts k 0) b)
 
 -- ---- no choice
@@ -77,7 +77,7 @@ pub one-flexed : {inner gap : Float} {item : ℕ → Item} {n : ℕ} (counts : L
 one-flexed {n = n} counts {t₀} {f₀} {r₀} {sum} {sum'} {t} {t'} {f} {f'} {r} {r'} w p q =
     let c : ℕ = length counts in
     let same : (j : ℕ) → j < c → SameFlexed counts counts j j t t' f f' r r' = λ j h. flexed-alone p q j j h h refl in
-    let cells : take n t ≡ take n t' = ap (λ (i : ℕ). take i t) (sym w) ∙ by-cells counts c t t' (λ j h. same j h .targets-same) ∙ ap (λ (i : ℕ). take i t') w in
+    let cells : take n t ≡ take n t' = ap (λ (i : ℕ). take i t) (sym w) ∙ by-parts counts c t t' (λ j h. same j h .targets-same) ∙ ap (λ (i : ℕ). take i t') w in
     record {
       sums = p .sum-is ∙ sum-ext (λ j. getD r j 0) (λ j. getD r' j 0) c (λ j h. same j h .rounds-same) ∙ sym (q .sum-is);
       targets = sym (take-append-drop n t) ∙ ap₂ (λ (x y : List Float). x ++ y) cells (p .past ∙ sym (q .past)) ∙ take-append-drop n t';

@@ -15,10 +15,10 @@ use Rattle.refusal.specs.Marks.{sumUpTo}
 use Rattle.refusal.proofs.Sweep.{sum-none, sum-more}
 use Rattle.flexing.specs.declared.Item.{Item}
 use Rattle.flexing.specs.Flex.{outerSum, Flexed, targets as targetsOf}
-use Rattle.flexing.specs.Items.{each}
+use Rattle.grid.specs.Floats.{each}
 use Rattle.flexing.specs.Accepted.{Accepted}
 use Rattle.rounds.specs.Cells.{itemIn, itemsIn}
-use Rattle.flexlines.specs.Lines.{lineStart, lineItems, lineCells, Beyond, FlexedLines}
+use Rattle.flexlines.specs.Lines.{lineStart, lineItems, part, Beyond, FlexedLines}
 use Rattle.flexlines.specs.Parts.{Divided, Lined, Ahead, Flowed, Cleared}
 use Rattle.rounds.proofs.Each.{length-each, each-ext, outer-snoc}
 use Rattle.rounds.proofs.Columns.{every-each}
@@ -84,21 +84,27 @@ module _ (inner gap : Float) (t : List Float) (n : ℕ) (counts : List ℕ) (tar
 
 -- ---- a line's cells
 
-part-of : (s c a : ℕ) (l : List Float) → s + c ≤ a → s ≤ length l → take c (drop s l) ≡ drop s (take (s + c) (take a l))
-part-of s c a l h k = sym (ap (λ (x : List Float). drop s x) (take-take (s + c) a l h ∙ take-add s c l) ∙ drop-at (take s l) (take c (drop s l)) s (length-take-le s l k))
+module _ {A : Type 0} where
+  part-of : (s c a : ℕ) (l : List A) → s + c ≤ a → s ≤ length l → take c (drop s l) ≡ drop s (take (s + c) (take a l))
+  part-of s c a l h k = sym (ap (λ (x : List A). drop s x) (take-take (s + c) a l h ∙ take-add s c l) ∙ drop-at (take s l) (take c (drop s l)) s (length-take-le s l k))
 
--- those of an earlier line are as they were, and those of this one are its part
-other-cells : (s c a e : ℕ) (l part : List Float) → s + c ≤ a → a ≤ e → e ≤ length l → length part ≡ e - a → take c (drop s (putMid a (e - a) l part)) ≡ take c (drop s l)
-other-cells s c a e l part h k r q =
-    let m = same-len-mid a (e - a) l part (q ∙ sym (mid-len a e l r)) in
-    part-of s c a (putMid a (e - a) l part) h (omega (arith, m))
-    ∙ ap (λ (x : List Float). drop s (take (s + c) x)) (take-put a (e - a) l part (omega arith))
-    ∙ sym (part-of s c a l h (omega arith))
+  -- those of an earlier line are as they were, and those of this one are its part
+  pub other-cells : (s c a e : ℕ) (l cells : List A) → s + c ≤ a → a ≤ e → e ≤ length l → length cells ≡ e - a → take c (drop s (putMid a (e - a) l cells)) ≡ take c (drop s l)
+  other-cells s c a e l cells h k r q =
+      let m = same-len-mid a (e - a) l cells (q ∙ sym (mid-len a e l r)) in
+      part-of s c a (putMid a (e - a) l cells) h (omega (arith, m))
+      ∙ ap (λ (x : List A). drop s (take (s + c) x)) (take-put a (e - a) l cells (omega arith))
+      ∙ sym (part-of s c a l h (omega arith))
 
-own-cells : (a c e : ℕ) (l part : List Float) → e ≡ a + c → e ≤ length l → length part ≡ e - a → take c (drop a (putMid a (e - a) l part)) ≡ part
-own-cells a c e l part h r q =
-    ap (λ (x : List Float). take c x) (drop-at (take a l) (part ++ postOf a (e - a) l) a (length-take-le a l (omega arith)))
-    ∙ take-at part (postOf a (e - a) l) c (omega arith)
+  pub own-cells : (a c e : ℕ) (l cells : List A) → e ≡ a + c → e ≤ length l → length cells ≡ e - a → take c (drop a (putMid a (e - a) l cells)) ≡ cells
+  own-cells a c e l cells h r q =
+      ap (λ (x : List A). take c x) (drop-at (take a l) (cells ++ postOf a (e - a) l) a (length-take-le a l (omega arith)))
+      ∙ take-at cells (postOf a (e - a) l) c (omega arith)
+
+  pub later : (a e : ℕ) (l m : List A) → a ≤ e → drop a l ≡ drop a m → drop e l ≡ drop e m
+  later a e l m h p =
+      let k : a + (e - a) ≡ e = omega arith in
+      sym (drop-drop (e - a) a l ∙ ap (λ (i : ℕ). drop i l) k) ∙ ap (λ (x : List A). drop (e - a) x) p ∙ drop-drop (e - a) a m ∙ ap (λ (i : ℕ). drop i m) k
 
 -- ---- a line that is flexed, by equals
 
@@ -126,7 +132,7 @@ module _ (inner gap : Float) (item : ℕ → Item) (counts : List ℕ) (targets�
     inside = zero-le;
     less = zero-le;
     flowed = record {
-      line = below-none (λ (j : ℕ). Flexed inner gap (lineItems item counts j) (getD free₀ j (pos 0)) (getD rounds₀ j 0) [] (lineCells counts j targets₀));
+      line = below-none (λ (j : ℕ). Flexed inner gap (lineItems item counts j) (getD free₀ j (pos 0)) (getD rounds₀ j 0) [] (part counts j targets₀));
       sum-is = sym (sum-none (λ j. getD rounds₀ j 0));
       long = refl;
       past = refl;
@@ -137,11 +143,11 @@ module _ (inner gap : Float) (item : ℕ → Item) (counts : List ℕ) (targets�
 
   module _ (targets : List Float) (free : List ℤ) (rounds : List ℕ) (sum start line : ℕ) (g : Going inner gap item counts targets₀ free₀ rounds₀ targets free rounds sum start line) where
     -- one line more
-    pub going-next : (e : ℕ) (part : List Float) (f : ℤ) (r : ℕ) → line < length counts → e ≡ start + getD counts line 0 → e ≤ length targets → line < length free → line < length rounds → length part ≡ e - start
-        → Flexed inner gap (each (getD counts line 0) (λ i. item (start + i))) f r (midOf start (e - start) targets) part
-        → Going inner gap item counts targets₀ free₀ rounds₀ (putMid start (e - start) targets part) (set free line f) (set rounds line r) (sum + r) e (line + 1)
-    going-next e part f r h q room lf lr lp p =
-        let now' : List Float = putMid start (e - start) targets part in
+    pub going-next : (e : ℕ) (cells : List Float) (f : ℤ) (r : ℕ) → line < length counts → e ≡ start + getD counts line 0 → e ≤ length targets → line < length free → line < length rounds → length cells ≡ e - start
+        → Flexed inner gap (each (getD counts line 0) (λ i. item (start + i))) f r (midOf start (e - start) targets) cells
+        → Going inner gap item counts targets₀ free₀ rounds₀ (putMid start (e - start) targets cells) (set free line f) (set rounds line r) (sum + r) e (line + 1)
+    going-next e cells f r h q room lf lr lp p =
+        let now' : List Float = putMid start (e - start) targets cells in
         let free' : List ℤ = set free line f in
         let rounds' : List ℕ = set rounds line r in
         let c : ℕ = getD counts line 0 in
@@ -154,33 +160,28 @@ module _ (inner gap : Float) (item : ℕ → Item) (counts : List ℕ) (targets�
           inside = omega arith;
           less = omega (arith, g .less);
           flowed = record {
-            line = below-more (λ (j : ℕ). Flexed inner gap (lineItems item counts j) (getD free' j (pos 0)) (getD rounds' j 0) [] (lineCells counts j now')) line
+            line = below-more (λ (j : ℕ). Flexed inner gap (lineItems item counts j) (getD free' j (pos 0)) (getD rounds' j 0) [] (part counts j now')) line
                 (λ j l. flexed-as inner gap _ _ _ _ _ _ [] [] _ _ refl (sym (getD-set-other free line j f (pos 0) (ne-of-lt l))) (sym (getD-set-other rounds line j r 0 (ne-of-lt l))) refl
-                (sym (other-cells (lineStart counts j) (getD counts j 0) start e targets part (subst (λ (k : ℕ). lineStart counts j + getD counts j 0 ≤ k) (sym (g .here)) (ends-before (λ i. getD counts i 0) j line l)) (omega arith) room lp))
+                (sym (other-cells (lineStart counts j) (getD counts j 0) start e targets cells (subst (λ (k : ℕ). lineStart counts j + getD counts j 0 ≤ k) (sym (g .here)) (ends-before (λ i. getD counts i 0) j line l)) (omega arith) room lp))
                 (g .flowed .line j l))
                 (flexed-as inner gap _ _ _ _ _ _ (midOf start (e - start) targets) [] _ _
                 (ap (λ (k : ℕ). each c (λ i. item (k + i))) (g .here))
                 (sym (getD-set-same free line f (pos 0) lf)) (sym (getD-set-same rounds line r 0 lr))
                 (drop-of-length-le (midOf start (e - start) targets) {i = length (each c it)} (omega (arith, mid-len start e targets room)) ∙ sym (drop-nil (length (each c it))))
-                (sym (ap (λ (k : ℕ). take c (drop k now')) (sym (g .here)) ∙ own-cells start c e targets part q room lp))
+                (sym (ap (λ (k : ℕ). take c (drop k now')) (sym (g .here)) ∙ own-cells start c e targets cells q room lp))
                 p);
             sum-is =
                 ap₂ (λ (a b : ℕ). a + b) (g .flowed .sum-is ∙ sum-ext (λ j. getD rounds j 0) (λ j. getD rounds' j 0) line (λ j l. sym (getD-set-other rounds line j r 0 (ne-of-lt l)))) (sym (getD-set-same rounds line r 0 lr))
                 ∙ sym (sum-more (λ j. getD rounds' j 0) line);
-            long = same-len-mid start (e - start) targets part (lp ∙ sym (mid-len start e targets room)) ∙ g .flowed .long;
+            long = same-len-mid start (e - start) targets cells (lp ∙ sym (mid-len start e targets room)) ∙ g .flowed .long;
             past =
-                ap (λ (k : ℕ). drop k now') (sym next) ∙ drop-put start e targets part (omega arith) room lp
+                ap (λ (k : ℕ). drop k now') (sym next) ∙ drop-put start e targets cells (omega arith) room lp
                 ∙ later (lineStart counts line) e targets targets₀ (subst (λ (k : ℕ). k ≤ e) (g .here) (omega arith)) (g .flowed .past)
                 ∙ ap (λ (k : ℕ). drop k targets₀) next;
             free-past = ahead-next (pos 0) line free₀ free f (g .flowed .free-past);
             rounds-past = ahead-next 0 line rounds₀ rounds r (g .flowed .rounds-past);
           };
         }
-      where
-        later : (a e : ℕ) (l m : List Float) → a ≤ e → drop a l ≡ drop a m → drop e l ≡ drop e m
-        later a e l m h p =
-            let k : a + (e - a) ≡ e = omega arith in
-            sym (drop-drop (e - a) a l ∙ ap (λ (i : ℕ). drop i l) k) ∙ ap (λ (x : List Float). drop (e - a) x) p ∙ drop-drop (e - a) a m ∙ ap (λ (i : ℕ). drop i m) k
 
     -- all lines
     pub going-all : length counts ≤ line → Flowed inner gap item counts (length counts) sum targets₀ free₀ rounds₀ targets free rounds

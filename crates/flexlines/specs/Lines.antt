@@ -11,7 +11,7 @@ use lib.Ieee.{Float}
 use Rattle.refusal.specs.Marks.{sumUpTo}
 use Rattle.flexing.specs.declared.Item.{Item}
 use Rattle.flexing.specs.Flex.{Flexed}
-use Rattle.flexing.specs.Items.{each}
+use Rattle.grid.specs.Floats.{each}
 
 -- ---- a line's range, by the items that each line has
 
@@ -23,8 +23,8 @@ abbrev pub lineItems : (ℕ → Item) → List ℕ → ℕ → List Item
 lineItems item counts j = each (getD counts j 0) (λ i. item (lineStart counts j + i))
 
 -- its part of a list by item
-abbrev pub lineCells : List ℕ → ℕ → List Float → List Float
-lineCells counts j l = take (getD counts j 0) (drop (lineStart counts j) l)
+abbrev pub part : {A : Type 0} → List ℕ → ℕ → List A → List A
+part counts j l = take (getD counts j 0) (drop (lineStart counts j) l)
 
 -- none of the first k counts is 0
 unfoldable pub positive : List ℕ → ℕ → Bool
@@ -45,7 +45,7 @@ pub record Beyond {A : Type 0} (none : A) (k n : ℕ) (old new : List A) : Type 
 
 -- every line is flexed by its own items alone; and the sum of the rounds
 pub record FlexedLines (inner gap : Float) (item : ℕ → Item) (n : ℕ) (counts : List ℕ) (sum : ℕ) (targets₀ : List Float) (free₀ : List ℤ) (rounds₀ : List ℕ) (targets : List Float) (free : List ℤ) (rounds : List ℕ) : Type 0 where
-  pub line : (j : ℕ) → j < length counts → Flexed inner gap (lineItems item counts j) (getD free j (pos 0)) (getD rounds j 0) [] (lineCells counts j targets)
+  pub line : (j : ℕ) → j < length counts → Flexed inner gap (lineItems item counts j) (getD free j (pos 0)) (getD rounds j 0) [] (part counts j targets)
   pub sum-is : sum ≡ sumUpTo (λ j. getD rounds j 0) (length counts)
   pub long : length targets ≡ length targets₀
   pub past : drop n targets ≡ drop n targets₀

@@ -11,7 +11,7 @@ use Rattle.refusal.specs.Marks.{sumUpTo}
 use Rattle.flexing.specs.declared.Item.{Item}
 use Rattle.flexing.specs.Flex.{Flexed, outerSum}
 use Rattle.rounds.specs.Cells.{itemsIn, Tabled}
-use Rattle.flexlines.specs.Lines.{lineStart, lineItems, lineCells}
+use Rattle.flexlines.specs.Lines.{lineStart, lineItems, part}
 
 -- what checks 1 to 5 show: the lines have the n items of the table, none of them is empty, and there is room
 pub record Divided (inner gap : Float) (t : List Float) (n : ℕ) (counts : List ℕ) (targets : List Float) (free : List ℤ) (rounds : List ℕ) : Type 0 where
@@ -37,7 +37,7 @@ pub record Ahead {A : Type 0} (none : A) (k : ℕ) (old new : List A) : Type 0 w
 
 -- the first k lines are flexed
 pub record Flowed (inner gap : Float) (item : ℕ → Item) (counts : List ℕ) (k sum : ℕ) (targets₀ : List Float) (free₀ : List ℤ) (rounds₀ : List ℕ) (targets : List Float) (free : List ℤ) (rounds : List ℕ) : Type 0 where
-  pub line : (j : ℕ) → j < k → Flexed inner gap (lineItems item counts j) (getD free j (pos 0)) (getD rounds j 0) [] (lineCells counts j targets)
+  pub line : (j : ℕ) → j < k → Flexed inner gap (lineItems item counts j) (getD free j (pos 0)) (getD rounds j 0) [] (part counts j targets)
   pub sum-is : sum ≡ sumUpTo (λ j. getD rounds j 0) k
   pub long : length targets ≡ length targets₀
   pub past : drop (lineStart counts k) targets ≡ drop (lineStart counts k) targets₀

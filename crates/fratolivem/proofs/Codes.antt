@@ -14,13 +14,14 @@ use Rattle.refusal.specs.declared.Verdict.{Verdict}
 use Rattle.refusal.specs.declared.Verdict.the-variants.{Passed, Refused}
 use Rattle.breaking.specs.declared.AvailableSpace.{AvailableSpace}
 use Rattle.breaking.specs.Breaking.{limitOf, greedy}
-use Rattle.breaking.specs.Calls.{breakingVerdict, units, Broken, brokenInto, greedyCall}
+use Rattle.breaking.specs.Calls.{breakingVerdict, units, brokenInto, greedyCall}
 use Rattle.breaking.proofs.Accepted.{code-passes, code-fails}
 use Rattle.refusal.specs.declared.Answer.{Answer}
 use Rattle.balance.specs.Calls.{Lent, hasRoom, BalancedCall}
 use Rattle.crossing.specs.declared.CAnswer.{CAnswer}
 use Rattle.crossing.specs.Crossing.{cAnswer}
-use Rattle.fratolivem.specs.Boundary.{spaceOf, kindNumber, greedyFromC, balancedFromC, BalancedFromC}
+use Rattle.breaking.specs.Limit.{spaceOf}
+use Rattle.fratolivem.specs.Boundary.{kindNumber, greedyFromC, balancedFromC, BalancedFromC}
 
 -- a verdict that refused, as the answer of a call: no lines were made, so it does not matter which would have been
 as-refused : (v : Verdict) (lines : List ℕ) (n : ℕ) (before : List ℕ) → ¬ (v ≡ Passed) → (asAnswer v 0 0 ≡ brokenInto v lines n before .answer) × (before ≡ brokenInto v lines n before .counts)

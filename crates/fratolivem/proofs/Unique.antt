@@ -11,7 +11,8 @@ use Rattle.balance.specs.Calls.{Lent}
 use Rattle.balance.proofs.Call.{divides-one}
 use Rattle.crossing.specs.declared.CAnswer.{CAnswer}
 use Rattle.crossing.specs.Crossing.{cAnswer}
-use Rattle.fratolivem.specs.Boundary.{spaceOf, balancedFromC, BalancedFromC}
+use Rattle.breaking.specs.Limit.{spaceOf}
+use Rattle.fratolivem.specs.Boundary.{balancedFromC, BalancedFromC}
 
 module _ (kind : ℕ) (limit gap : Float) (minimum : ℕ) (sizes : List Float) (before : Lent) where
   pub one-balanced : (r s : CAnswer) (a c : Lent) → BalancedFromC kind limit gap minimum sizes before r a → BalancedFromC kind limit gap minimum sizes before s c → (r ≡ s) × (a ≡ c)

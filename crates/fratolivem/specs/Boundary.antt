@@ -3,7 +3,7 @@
 use mathlib.Core.Path.{_≡_}
 use mathlib.Core.Bool.{Bool, true, false}
 use mathlib.Core.List.{List, [], _∷_}
-use Prim.Native.Nat.{ℕ, zero, suc}
+use Prim.Native.Nat.{ℕ}
 use lib.Dec.{leb, eqb}
 use lib.ListN.{length}
 use lib.Ieee.{Float, binary32, ofBits}
@@ -13,7 +13,6 @@ use Rattle.refusal.specs.declared.Refusal.{Refusal}
 use Rattle.refusal.specs.declared.Verdict.{Verdict}
 use Rattle.refusal.specs.declared.Verdict.the-variants.{Passed}
 use Rattle.refusal.specs.declared.Verdict.the-variants as verdict
-use Rattle.refusal.specs.declared.Answer.{Answer}
 use Rattle.refusal.specs.declared.Answer.the-variants.{Done}
 use Rattle.refusal.specs.declared.Answer.the-variants as answer
 use Rattle.breaking.specs.declared.AvailableSpace.{AvailableSpace}
@@ -24,19 +23,13 @@ use Rattle.breaking.specs.declared.Query.{Query}
 use Rattle.breaking.specs.declared.BreakLimit.{BreakLimit}
 use Rattle.breaking.specs.declared.BreakLimit.the-variants.{Limit}
 use Rattle.breaking.specs.declared.BreakLimit.the-variants as limit
-use Rattle.breaking.specs.Limit.{limitVerdict, limitFrom}
+use Rattle.breaking.specs.Limit.{spaceOf, limitVerdict, limitFrom}
 use Rattle.breaking.specs.Breaking.{limitOf, greedy}
 use Rattle.breaking.specs.Calls.{breakingVerdict, units, Broken, brokenInto}
 use Rattle.balance.specs.Calls.{Lent, hasRoom, Divides}
 use Rattle.crossing.specs.declared.CAnswer.{CAnswer}
 use Rattle.crossing.specs.Crossing.{crossed, cAnswer}
 use Rattle.fratolivem.specs.declared.CLimit.{CLimit}
-
--- limit kinds: 0 definite, 1 min-content, 2 max-content; the limit is read only under 0
-abbrev pub spaceOf : ℕ → Float → AvailableSpace
-spaceOf zero x = Definite x
-spaceOf (suc zero) x = MinContent
-spaceOf (suc (suc k)) x = MaxContent
 
 -- "another kind is refusal 5 at the container": the kind is a code of the container, one of 0 to 2
 abbrev pub kindNumber : ℕ → List Number

@@ -4,11 +4,12 @@ ghost use mathlib.Core.Path.{_≡_};
 ghost use lib.Ieee.{Float};
 ghost use Rattle.breaking.specs.Limit.{limitFrom};
 ghost use Rattle.refusal.specs.Marks.{leastOf};
-ghost use Rattle.fratolivem.specs.Boundary.{spaceOf, boundOf, cSpace, cRefused, cLimit, askedCodes, limitFromC, Crossed, greedyFromC, BalancedFromC};
+ghost use Rattle.fratolivem.specs.Boundary.{boundOf, cSpace, cRefused, cLimit, askedCodes, limitFromC, Crossed, greedyFromC, BalancedFromC};
 ghost use Rattle.balance.specs.Calls.{lent};
 use breaking::AvailableSpace;
 use breaking::Bound;
 use breaking::Query;
+use breaking::space_of;
 use crossing::CAnswer;
 use crossing::refusal_to_c;
 use crossing::to_c;
@@ -23,18 +24,6 @@ pub struct CLimit {
     pub place: u32,
     pub kind: u32,
     pub limit: f32,
-}
-
-fn space_of(kind: u32, limit: f32) -> AvailableSpace
-    ensures { λ r. ⌜ r ≡ spaceOf kind limit ⌝ }
-{
-    if kind == 0 {
-        return AvailableSpace::Definite(limit);
-    }
-    if kind == 1 {
-        return AvailableSpace::MinContent;
-    }
-    AvailableSpace::MaxContent
 }
 
 fn bound_of(given: bool, x: f32) -> Bound

@@ -3,8 +3,7 @@ use mathlib.Core.Path.{_≡_, refl, sym, ap, ap₂, _∙_}
 use Prim.Native.Nat.{ℕ, _+_}
 use native.Mathlib.Numerals.{add-one}
 use lib.Ieee.{Float}
-use Rattle.breaking.specs.Limit.{raised}
-use Rattle.align.specs.Align.{nought}
+use Rattle.grid.specs.Floats.{nought, raised}
 use Rattle.linesize.specs.CrossSize.{largest}
 
 pub largest-none : (f : ℕ → Float) → largest f 0 ≡ nought

@@ -7,7 +7,8 @@ use lib.Ieee.{Float}
 use Rattle.grid.specs.Grid.{cleaned}
 use Rattle.breaking.specs.declared.Bound.{Bound}
 use Rattle.breaking.specs.declared.Bound.the-variants.{Absent, Given}
-use Rattle.breaking.specs.Limit.{lowered, raisedTo}
+use Rattle.grid.specs.Floats.{lowered}
+use Rattle.breaking.specs.Limit.{raisedTo}
 use Rattle.linesize.specs.declared.container.Wrap.{Wrap}
 use Rattle.linesize.specs.declared.container.Wrap.the-variants as wrap
 use Rattle.linesize.specs.declared.container.Cross.{Cross}

@@ -7,8 +7,7 @@ use lib.Dec.{eqb}
 use lib.ListN.{length, getD}
 use lib.Ieee.{Float, nan}
 use Rattle.grid.specs.Grid.{cleaned}
-use Rattle.breaking.specs.Limit.{lowered, raised}
-use Rattle.align.specs.Align.{_⊕_, nought}
+use Rattle.grid.specs.Floats.{_⊕_, nought, lowered, raised}
 use Rattle.linesize.specs.declared.container.Cross.{Cross}
 use Rattle.linesize.specs.declared.cross_size.CrossItem.{CrossItem}
 use Rattle.linesize.specs.Container.{isSingleLine, readCross, innerSize, orBounded}

@@ -1,6 +1,6 @@
 -- Document 01, "Main axis": the items of one line, whose targets are worked out. Assumes nothing.
 use mathlib.Core.Path.{_≡_}
-use mathlib.Core.Bool.{Bool, true, false, cond, _&&_}
+use mathlib.Core.Bool.{Bool, cond, _&&_}
 use mathlib.Core.List.{List}
 use Prim.Native.Nat.{ℕ, _+_, _≤_}
 use lib.Dec.{ltb}
@@ -8,9 +8,9 @@ use lib.ListN.{length, getD}
 use lib.Ieee.{Float, nan, lt}
 use Rattle.grid.specs.Grid.{cleaned}
 use Rattle.align.specs.declared.ContentAlignment.{ContentAlignment}
-use Rattle.align.specs.Align.{_⊕_, _⊖_, _⊘_, nought, counted}
+use Rattle.grid.specs.Floats.{_⊕_, _⊖_, _⊘_, nought, counted, gaps}
 use Rattle.align.specs.Lists.{total, overwritten}
-use Rattle.align.specs.Axis.{gaps, margin, marginAt, autos, offsets}
+use Rattle.align.specs.Axis.{margin, marginAt, autos, offsets}
 
 -- the items' targets and margins; a margin is auto where its code is not 0
 pub record Line : Type 0 where

@@ -8,10 +8,10 @@ use lib.ListN.{length, getD}
 use lib.Ieee.{Float}
 use borrow.Author.Count.{below-none, below-more}
 use borrow.Rule.Slice.PartMut.{midOf, putMid, mid-len}
-use Rattle.flexlines.specs.Lines.{lineStart}
+use Rattle.flexlines.specs.Lines.{lineStart, part}
 use Rattle.align.specs.declared.ContentAlignment.{ContentAlignment}
 use Rattle.mainaxis.specs.MainAxis.{Line, line, count, Even, Spaced}
-use Rattle.bylines.specs.Parts.{part, Division}
+use Rattle.bylines.specs.Parts.{Division}
 use Rattle.mainlines.specs.Main.{mainLine, MainReady, MainLines}
 use Rattle.bylines.proofs.Parted.{Here, start-none, start-next, ends-within, lent-is, Front, front-none, step, front-next, past-of, all-cells, same-parts}
 

@@ -6,7 +6,8 @@ use lib.ListN.{length}
 use lib.Ieee.{Float}
 use Rattle.align.specs.declared.ContentAlignment.{ContentAlignment}
 use Rattle.mainaxis.specs.MainAxis.{Line, line, count, Even, Spaced}
-use Rattle.bylines.specs.Parts.{part, Division, Past}
+use Rattle.flexlines.specs.Lines.{part}
+use Rattle.bylines.specs.Parts.{Division, Past}
 
 -- the items of line j
 abbrev pub mainLine : List ℕ → ℕ → Line → Line

@@ -1,9 +1,9 @@
 -- The stages' contracts put together: what flexing is asked, what the main axis is asked, and both in the lists of the pass. Assumes nothing.
-use mathlib.Core.Path.{_≡_, refl, sym, ap, _∙_, subst}
+use mathlib.Core.Path.{_≡_, sym, ap, _∙_, subst}
 use mathlib.Core.Logic.{inr}
 use mathlib.Core.Bool.{Bool}
 use mathlib.Core.List.{List, _++_}
-use Prim.Native.Nat.{ℕ, _*_, _+_, _≤_, _<_}
+use Prim.Native.Nat.{ℕ, _*_, _+_, _≤_}
 use native.Mathlib.Nat.{le-trans, le-of-eq}
 use native.Mathlib.Omega.{arith}
 use lib.ListN.{length, drop, take, length-replicate, drop-of-length-le}
@@ -17,14 +17,15 @@ use Rattle.flexlines.specs.Lines.{FlexedLines}
 use Rattle.flexlines.specs.Parts.{Lined}
 use Rattle.flexlines.proofs.Going.{lines-as}
 use Rattle.align.specs.declared.ContentAlignment.{ContentAlignment}
-use Rattle.align.specs.Align.{nought, contentOf}
+use Rattle.grid.specs.Floats.{nought}
+use Rattle.align.specs.Align.{contentOf}
 use Rattle.mainaxis.specs.MainAxis.{Line, line}
 use Rattle.bylines.specs.Parts.{Past}
 use Rattle.mainlines.specs.Main.{MainReady, MainLines}
 use Rattle.container.specs.declared.Container.{Container}
 use Rattle.container.specs.Columns.{column, mainLists, zeros, mainItems}
 use Rattle.container.specs.Container.{reversed}
-use Rattle.container.specs.Stages.{Listed, Inside, FourStored}
+use Rattle.container.specs.Stages.{Inside, FourStored}
 use Rattle.passchecks.proofs.Taken.{number-length, code-length}
 use Rattle.mainstage.specs.Stage.{Ready, Run, MainStage}
 

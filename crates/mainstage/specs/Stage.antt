@@ -1,6 +1,5 @@
 -- The main axis of the whole pass: what it asks, and what it gives, by the definitions of flexing and of the main axis. Assumes nothing.
 use mathlib.Core.Path.{_≡_}
-use mathlib.Core.Bool.{Bool}
 use mathlib.Core.List.{List}
 use Prim.Native.Nat.{ℕ, _*_, _≤_}
 use lib.ListN.{length, drop}

@@ -1,19 +1,18 @@
 -- What the checks show of a pass: what every stage of it asks. By the laws of accepted numbers, of flexing's table and of breaking. Assumes nothing.
 use mathlib.Core.Path.{_≡_, refl, sym, ap, _∙_, subst}
 use mathlib.Core.Bool.{Bool, true, false, cond}
-use mathlib.Core.List.{List, [], _∷_, _++_}
-use Prim.Native.Nat.{ℕ, zero, suc, _+_, _*_, _≤_, _<_}
+use mathlib.Core.List.{List}
+use Prim.Native.Nat.{ℕ, zero, suc, _+_, _*_, _≤_}
 use native.Mathlib.Nat.{le-trans, le-of-eq}
 use native.Mathlib.Omega.{arith}
 use lib.Dec.{eqb, ltb}
 use lib.ListN.{length}
-use lib.IntN.{ℤ, pos}
 use lib.Ieee.{Float}
 use borrow.Author.Tests.{ltb-false}
 use Rattle.grid.specs.Grid.{Length, sixtyFourths, cleaned}
 use Rattle.grid.proofs.Meaning.{at-of-grid, grid-of-at}
 use Rattle.grid.proofs.Cleaned.{cleaned-at}
-use Rattle.refusal.specs.Domain.{float, code, shape, summed, then}
+use Rattle.refusal.specs.Domain.{float, shape, summed, then}
 use Rattle.refusal.specs.Optional.{optional}
 use Rattle.refusal.specs.Marks.{leastMark, judged, AllFine, Sound}
 use Rattle.refusal.specs.declared.Refusal.{Refusal}
@@ -35,8 +34,9 @@ use Rattle.wrapping.proofs.Given.{table-breakable}
 use Rattle.crosschecks.specs.Numbers.{boundNumbers, crossNumbers}
 use Rattle.crosschecks.specs.declared.numbers.CrossNumbers.{CrossNumbers}
 use Rattle.container.specs.declared.Container.{Container}
-use Rattle.container.specs.Columns.{column, mainLists, crossItems, alignSelf, autoSize}
-use Rattle.container.specs.Container.{spaceOf, limitOf, balances, crossNumbersOf}
+use Rattle.container.specs.Columns.{column, mainLists}
+use Rattle.breaking.specs.Limit.{spaceOf}
+use Rattle.container.specs.Container.{limitOf, balances, crossNumbersOf}
 use Rattle.container.specs.Stages.{Listed}
 use Rattle.passchecks.specs.Checks.{containerNumbers, passInput, passSum, passVerdict}
 use Rattle.passchecks.proofs.Taken.{number-length}

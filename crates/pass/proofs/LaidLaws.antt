@@ -1,10 +1,10 @@
 -- The stages' answers put together are an accepted run: a list that one stage wrote outlives the later ones. Assumes nothing.
 use mathlib.Core.Path.{_≡_, refl, sym, ap, _∙_, subst}
-use mathlib.Core.List.{List, []}
+use mathlib.Core.List.{List}
 use Prim.Native.Nat.{ℕ, _*_, _≤_, _<_}
 use native.Mathlib.Nat.{le-trans, le-of-eq}
 use native.Mathlib.Omega.{arith}
-use lib.ListN.{length, take, replicate, length-replicate}
+use lib.ListN.{length, take, length-replicate}
 use lib.IntN.{ℤ}
 use lib.Ieee.{Float}
 use Rattle.grid.specs.Grid.{cleaned}
@@ -14,7 +14,8 @@ use Rattle.flexing.specs.declared.Item.{Item}
 use Rattle.flexing.specs.Items.{itemAt, itemsOf}
 use Rattle.rounds.specs.Cells.{itemsIn}
 use Rattle.flexlines.specs.Lines.{FlexedLines}
-use Rattle.align.specs.Align.{nought, contentOf}
+use Rattle.grid.specs.Floats.{nought}
+use Rattle.align.specs.Align.{contentOf}
 use Rattle.mainlines.specs.Main.{MainLines}
 use Rattle.wrapping.specs.declared.Mode.{Mode}
 use Rattle.wrapping.specs.declared.Mode.the-variants.{Single, Greedy, Balanced}

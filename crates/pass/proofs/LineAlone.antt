@@ -7,11 +7,11 @@ use native.Mathlib.Omega.{arith}
 use lib.ListN.{length, getD, take, drop}
 use lib.Seq.{getD-take, getD-drop}
 use lib.Ieee.{Float, nan}
-use Rattle.flexing.specs.Items.{each, itemAt}
+use Rattle.grid.specs.Floats.{each}
+use Rattle.flexing.specs.Items.{itemAt}
 use Rattle.rounds.proofs.Each.{each-ext}
-use Rattle.flexlines.specs.Lines.{lineStart, lineItems}
+use Rattle.flexlines.specs.Lines.{lineStart, lineItems, part}
 use Rattle.flexlines.proofs.Alone.{SameFlexed, flexed-alone}
-use Rattle.bylines.specs.Parts.{part}
 use Rattle.mainlines.proofs.Spacing.{same-line, main-independent}
 use Rattle.container.specs.declared.Container.{Container}
 use Rattle.container.specs.Columns.{column, mainLists}

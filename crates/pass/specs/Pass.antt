@@ -1,6 +1,6 @@
 -- THE WHOLE PASS on plain lists: document 01's sections in their order, each by its own definition, on what the one before it answers. Assumes nothing.
 use mathlib.Core.Path.{_≡_}
-use mathlib.Core.Bool.{Bool, cond}
+use mathlib.Core.Bool.{cond}
 use mathlib.Core.List.{List, []}
 use Prim.Native.Nat.{ℕ, _*_}
 use lib.Dec.{eqb, ltb}

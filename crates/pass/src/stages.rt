@@ -2,7 +2,6 @@
 ghost use mathlib.Core.Path.{_≡_};
 ghost use lib.ListN.{length};
 ghost use Rattle.wrapping.specs.Wrapping as wrapping;
-ghost use Rattle.container.specs.Container.{spaceOf};
 ghost use Rattle.rounds.specs.Cells.{Held};
 ghost use Rattle.container.specs.Columns.{mainLists};
 ghost use Rattle.container.specs.Stages.{Listed};
@@ -10,7 +9,7 @@ ghost use Rattle.pass.specs.Pass.{lent, modeOf, Answered};
 ghost use Rattle.refusal.specs.declared.Verdict.the-variants.{Passed};
 ghost use Rattle.pass.specs.Stages.{Breaks, Broken, CrossAsked, CrossLaid, MainAsked, MainLaid, Accepted};
 use crate::PassAnswer;
-use breaking::AvailableSpace;
+use breaking::space_of;
 use container::Container;
 use container::columns::code_column;
 use container::columns::column;
@@ -31,18 +30,6 @@ fn mode_of(wrap: u32) -> Mode
         return Mode::Greedy;
     }
     Mode::Balanced
-}
-
-fn space_of(kind: u32, limit: f32) -> AvailableSpace
-    ensures { λ r. ⌜ r ≡ spaceOf kind limit ⌝ }
-{
-    if kind == 0 {
-        return AvailableSpace::Definite(limit);
-    }
-    if kind == 1 {
-        return AvailableSpace::MinContent;
-    }
-    AvailableSpace::MaxContent
 }
 
 // The lines of a table's items, by the wrap mode: counts by line, and how many lines there are.

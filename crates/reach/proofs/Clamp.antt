@@ -9,7 +9,8 @@ use native.Mathlib.Omega.{arith}
 use lib.Dec.{T}
 use lib.Ieee.{Float, nan, inf, fin, lt}
 use Rattle.flexing.specs.declared.Item.{Item}
-use Rattle.flexing.specs.Flex.{raised, lowered, clamp}
+use Rattle.grid.specs.Floats.{raised, lowered}
+use Rattle.flexing.specs.Flex.{clamp}
 use Rattle.reach.proofs.Units.{px, Num, far, one-side, lt-num}
 
 -- ---- one bound

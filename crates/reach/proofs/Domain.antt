@@ -17,7 +17,7 @@ use Rattle.grid.proofs.Exact.{rescale, le-at}
 use Rattle.grid.proofs.Meaning.{at-of-grid}
 use Rattle.grid.proofs.Range.{within-small}
 use Rattle.flexing.specs.declared.Item.{Item}
-use Rattle.flexing.specs.Flex.{nought}
+use Rattle.grid.specs.Floats.{nought}
 use Rattle.reach.specs.Reach.{IsSize, IsMargin, IsFactor, IsItem, HandedOn}
 use Rattle.reach.proofs.Units.{px, px-pos, Num, side, far, far-is, both}
 use Rattle.reach.proofs.Clamp.{Upto}

@@ -8,7 +8,8 @@ use lib.IntN.{pos}
 use lib.Ieee.{Float, inf, fin, le, fits, ofBits, lt, eq}
 use Rattle.grid.specs.Grid.{onGrid, within, sixtyFourths}
 use Rattle.flexing.specs.declared.Item.{Item}
-use Rattle.flexing.specs.Flex.{nought, clamp, outerSum}
+use Rattle.grid.specs.Floats.{nought}
+use Rattle.flexing.specs.Flex.{clamp, outerSum}
 use Rattle.reach.specs.Reach.{IsSize, IsFactor, IsItem, IsLine}
 
 -- 0, 1, 3, 100 and 300

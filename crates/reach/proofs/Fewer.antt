@@ -9,7 +9,8 @@ use lib.Dec.{lit≤}
 use lib.ListN.{length}
 use lib.Ieee.{Float}
 use Rattle.flexing.specs.declared.Share.{Share}
-use Rattle.flexing.specs.Flex.{Cell, left, sumFrom, total, factor, settle, nought, _⊕_}
+use Rattle.grid.specs.Floats.{nought, _⊕_}
+use Rattle.flexing.specs.Flex.{Cell, left, sumFrom, total, factor, settle}
 use Rattle.flexing.proofs.Signs.{All}
 use Rattle.reach.proofs.Units.{px, Num, far, fl, fl-mono, held-num}
 use Rattle.reach.proofs.Plus.{Sum, sum-num, sum-under, sum-above}

@@ -8,7 +8,8 @@ use native.Mathlib.Nat.{le-refl, le-trans, le-of-eq}
 use native.Mathlib.Omega.{arith}
 use lib.Ieee.{Float, lt}
 use Rattle.flexing.specs.declared.Share.{Share}
-use Rattle.flexing.specs.Flex.{Cell, left, violation, freezes, settle, nought}
+use Rattle.grid.specs.Floats.{nought}
+use Rattle.flexing.specs.Flex.{Cell, left, violation, freezes, settle}
 use Rattle.flexing.proofs.Signs.{All}
 use Rattle.reach.proofs.Units.{px, far, one-side}
 use Rattle.reach.proofs.Clamp.{bounded, bounded-mono}

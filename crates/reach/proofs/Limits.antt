@@ -9,7 +9,8 @@ use native.Mathlib.Omega.{arith}
 use lib.Dec.{T, lit≤}
 use lib.ListN.{length}
 use lib.Ieee.{Float, lt, neg}
-use Rattle.flexing.specs.Flex.{Cell, magnitude, limited, left, total, factor, weight, nought, unity, _⊗_}
+use Rattle.grid.specs.Floats.{nought, unity, _⊗_}
+use Rattle.flexing.specs.Flex.{Cell, magnitude, limited, left, total, factor, weight}
 use Rattle.flexing.proofs.Signs.{All}
 use Rattle.reach.proofs.Units.{px, Num, far, one-side, neg-num, lt-num}
 use Rattle.reach.proofs.Times.{product, Product, mul-num, nought-num, unity-num}

@@ -24,8 +24,9 @@ use Rattle.refusal.specs.declared.Verdict.the-variants.{Passed}
 use Rattle.refusal.proofs.Checks.{accepted, then-passed, summed-passed, fine-append, fine-factor}
 use Rattle.flexing.specs.declared.Item.{Item}
 use Rattle.flexing.specs.declared.Line.{Line}
-use Rattle.flexing.specs.Flex.{Cell, after, round, begun, first, grows, lineOf, targets, nought, outerSum}
-use Rattle.flexing.specs.Items.{Lists, count, each, itemAt, itemsOf}
+use Rattle.grid.specs.Floats.{nought, each}
+use Rattle.flexing.specs.Flex.{Cell, after, round, begun, first, grows, lineOf, targets, outerSum}
+use Rattle.flexing.specs.Items.{Lists, count, itemAt, itemsOf}
 use Rattle.rounds.proofs.Each.{length-each}
 use Rattle.flexcalls.specs.declared.FlexAnswer.the-variants.{Done}
 use Rattle.flexchecks.specs.Input.{shapeOf, plainAt, inputOf}

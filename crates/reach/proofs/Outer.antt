@@ -14,7 +14,8 @@ use lib.Signed.{ltZ}
 use lib.Ieee.{Float, nan, inf, fin, binary32, lt, ofInt}
 use Rattle.grid.specs.Grid.{sixtyFourths}
 use Rattle.flexing.specs.declared.Item.{Item}
-use Rattle.flexing.specs.Flex.{raised, lowered, clamp, hypothetical, outerUnits, sumUnits, freeBefore, outerSum, gaps, _⊗_}
+use Rattle.grid.specs.Floats.{raised, lowered, gaps, _⊗_}
+use Rattle.flexing.specs.Flex.{clamp, hypothetical, outerUnits, sumUnits, freeBefore, outerSum}
 use Rattle.reach.specs.Reach.{IsSize, IsItem, Each}
 use Rattle.flexing.proofs.Signs.{All}
 use Rattle.reach.proofs.Units.{px, px-pos, Num, far}

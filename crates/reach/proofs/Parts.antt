@@ -10,7 +10,8 @@ use lib.Dec.{T, lit≤}
 use lib.ListN.{length}
 use lib.Ieee.{eq}
 use Rattle.flexing.specs.declared.Share.{Share}
-use Rattle.flexing.specs.Flex.{Cell, weight, nought}
+use Rattle.grid.specs.Floats.{nought}
+use Rattle.flexing.specs.Flex.{Cell, weight}
 use Rattle.reach.proofs.Units.{px, px-pos, far}
 use Rattle.reach.proofs.Times.{product, product-near, quotient, quotient-near, eq-nought}
 use Rattle.reach.proofs.Totals.{count, count-long}

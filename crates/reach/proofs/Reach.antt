@@ -13,7 +13,8 @@ use Rattle.grid.specs.Grid.{cleaned}
 use Rattle.flexing.specs.declared.Item.{Item}
 use Rattle.flexing.specs.declared.Line.{Line}
 use Rattle.flexing.specs.declared.Share.{Share}
-use Rattle.flexing.specs.Flex.{Cell, left, unfrozen, settle, round, after, begun, gaps, lineOf, Runs, targets}
+use Rattle.grid.specs.Floats.{gaps}
+use Rattle.flexing.specs.Flex.{Cell, left, unfrozen, settle, round, after, begun, lineOf, Runs, targets}
 use Rattle.reach.specs.Reach.{IsLine, Each, HandedOn}
 use Rattle.flexing.proofs.Signs.{All}
 use Rattle.reach.proofs.Units.{px}

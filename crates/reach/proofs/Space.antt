@@ -9,7 +9,8 @@ use lib.Dec.{lit≤}
 use lib.ListN.{length}
 use lib.Ieee.{Float, binary32, add, sub, neg}
 use Rattle.flexing.specs.declared.Item.{Item}
-use Rattle.flexing.specs.Flex.{Cell, taken, total, nought, _⊕_, _⊖_}
+use Rattle.grid.specs.Floats.{nought, _⊕_, _⊖_}
+use Rattle.flexing.specs.Flex.{Cell, taken, total}
 use Rattle.flexing.proofs.Signs.{All}
 use Rattle.reach.proofs.Units.{px, Num, far, neg-num}
 use Rattle.reach.proofs.Plus.{Sum, sum-num, sum-near, sum-under}

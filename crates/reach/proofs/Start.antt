@@ -11,7 +11,8 @@ use lib.ListN.{length}
 use lib.Ieee.{Float, lt, eq}
 use Rattle.grid.specs.Grid.{sixtyFourths}
 use Rattle.flexing.specs.declared.Item.{Item}
-use Rattle.flexing.specs.Flex.{Cell, hypothetical, outerUnits, sumUnits, freeBefore, grows, inflexible, factor, first, begun, gaps, remaining, lineOf, nought}
+use Rattle.grid.specs.Floats.{gaps, nought}
+use Rattle.flexing.specs.Flex.{Cell, hypothetical, outerUnits, sumUnits, freeBefore, grows, inflexible, factor, first, begun, remaining, lineOf}
 use Rattle.reach.specs.Reach.{IsItem, IsLine}
 use Rattle.flexing.proofs.Signs.{All}
 use Rattle.reach.proofs.Units.{px, far, lt-num}

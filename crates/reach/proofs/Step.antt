@@ -13,7 +13,8 @@ use lib.Ieee.{Float}
 use Rattle.flexing.specs.declared.Item.{Item}
 use Rattle.flexing.specs.declared.Line.{Line}
 use Rattle.flexing.specs.declared.Share.{Share}
-use Rattle.flexing.specs.Flex.{Cell, left, total, factor, weight, gaps, remaining, share, flexed, violation, freezes, settle, round, nought}
+use Rattle.grid.specs.Floats.{gaps, nought}
+use Rattle.flexing.specs.Flex.{Cell, left, total, factor, weight, remaining, share, flexed, violation, freezes, settle, round}
 use Rattle.flexing.proofs.Signs.{All}
 use Rattle.reach.proofs.Units.{px, Num, far, held-num, one-side}
 use Rattle.reach.proofs.Times.{product, product-mono, product-within, product-zero}

@@ -14,7 +14,7 @@ use lib.Ieee.Exact.{HasValue}
 use lib.Ieee.Scale.{grid}
 use Rattle.grid.specs.Grid.{signed, At}
 use Rattle.grid.proofs.Exact.{eq-at, eqZ}
-use Rattle.flexing.specs.Flex.{nought, unity}
+use Rattle.grid.specs.Floats.{nought, unity}
 use Rattle.reach.proofs.Rounding.{grid-mono, grid-held, grid-near}
 use Rattle.reach.proofs.Units.{px, px-pos, Num, side, far, far-is, fl, fl-zero, both, Held, round-num, grid-same, small}
 

@@ -9,7 +9,8 @@ use native.Mathlib.Nat.{le-refl, le-trans, le-of-eq, zero-mul, mul-le-mul-right}
 use native.Mathlib.Omega.{arith}
 use lib.ListN.{length}
 use lib.Ieee.{Float}
-use Rattle.flexing.specs.Flex.{sumFrom, _⊕_}
+use Rattle.grid.specs.Floats.{_⊕_}
+use Rattle.flexing.specs.Flex.{sumFrom}
 use Rattle.flexing.proofs.Signs.{All}
 use Rattle.reach.proofs.Units.{Num, far, fl, fl-near, fl-mono, held-num, one-side}
 use Rattle.reach.proofs.Plus.{Sum, sum-num, sum-near, sum-under, sum-above}

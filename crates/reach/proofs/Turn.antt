@@ -9,7 +9,8 @@ use lib.Dec.{T, lit≤}
 use lib.Ieee.{Float, binary32, eq, add, sub, neg}
 use Rattle.flexing.specs.declared.Item.{Item}
 use Rattle.flexing.specs.declared.Share.{Share}
-use Rattle.flexing.specs.Flex.{raised, clamp, innerBase, factor, weight, flexed, nought, _⊕_, _⊖_, _⊗_, _⊘_}
+use Rattle.grid.specs.Floats.{raised, nought, _⊕_, _⊖_, _⊗_, _⊘_}
+use Rattle.flexing.specs.Flex.{clamp, innerBase, factor, weight, flexed}
 use Rattle.reach.proofs.Units.{px, Num, far, fl, fl-near, held-num, one-side, neg-num}
 use Rattle.reach.proofs.Plus.{Sum, sum-num, sum-near, sum-under, sum-side, sum-keeps}
 use Rattle.reach.proofs.Times.{product, product-within, product-zero, product-le, Product, mul-num, quotient, quotient-within, div-num, nought-num, eq-nought}

@@ -11,7 +11,8 @@ use lib.Ieee.{Float, inf, binary32, le, fits}
 use lib.Ieee.Scale.{finite}
 use Rattle.grid.specs.Grid.{onGrid, within}
 use Rattle.flexing.specs.declared.Item.{Item}
-use Rattle.flexing.specs.Flex.{nought, outerSum}
+use Rattle.grid.specs.Floats.{nought}
+use Rattle.flexing.specs.Flex.{outerSum}
 
 -- "Gaps, padding plus border, minima, maxima, flex bases and inner sizes are at least 0"; lengths "have magnitude at most 262,144 px"
 pub record IsSize (x : Float) : Type 0 where

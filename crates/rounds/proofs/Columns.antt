@@ -11,8 +11,8 @@ use lib.ListN.{length, getD, set, length-set}
 use lib.Seq.{getD-set-same, getD-set-other}
 use lib.Ieee.{Float, nan, inf}
 use Rattle.flexing.specs.declared.Item.{Item}
-use Rattle.flexing.specs.Flex.{nought}
-use Rattle.flexing.specs.Items.{Lists, count, read, readWhere, itemAt, each, itemsOf}
+use Rattle.grid.specs.Floats.{nought, each}
+use Rattle.flexing.specs.Items.{Lists, count, read, readWhere, itemAt, itemsOf}
 use Rattle.flexing.specs.Accepted.{Measured, Every, Even}
 use Rattle.rounds.specs.Cells.{itemIn, itemsIn, Stored, Tabled, Held}
 use Rattle.rounds.proofs.Each.{each-ext}

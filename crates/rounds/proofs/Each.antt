@@ -13,8 +13,8 @@ use lib.Ieee.{Float, nan}
 use Rattle.grid.specs.Grid.{sixtyFourths}
 use borrow.Author.Count.{below-none, below-more}
 use Rattle.flexing.specs.declared.Item.{Item}
-use Rattle.flexing.specs.Flex.{Cell, sumFrom, total, left, unfrozen, outerUnits, outerSum, _⊕_, nought}
-use Rattle.flexing.specs.Items.{each}
+use Rattle.grid.specs.Floats.{_⊕_, nought, each}
+use Rattle.flexing.specs.Flex.{Cell, sumFrom, total, left, unfrozen, outerUnits, outerSum}
 
 -- ---- `each`
 

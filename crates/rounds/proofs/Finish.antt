@@ -11,9 +11,9 @@ use lib.IntN.{ℤ}
 use lib.Ieee.{Float, nan}
 use Rattle.flexing.specs.declared.Line.{Line}
 use Rattle.rounds.specs.declared.Sums.{Sums}
-use Rattle.flexing.specs.Flex.{Cell, first, gaps, remaining, after, Runs, freeBefore, grows, begun, lineOf, Flexed, _⊕_, _⊖_}
+use Rattle.grid.specs.Floats.{gaps, _⊕_, _⊖_, each}
+use Rattle.flexing.specs.Flex.{Cell, first, remaining, after, Runs, freeBefore, grows, begun, lineOf, Flexed}
 use Rattle.grid.specs.Grid.{cleaned}
-use Rattle.flexing.specs.Items.{each}
 use Rattle.rounds.specs.Cells.{itemIn, itemsIn, cellAt, cellsOf, Kept, Rewritten, Ran, Summed}
 use Rattle.rounds.proofs.Each.{length-each, map-each}
 use Rattle.rounds.proofs.Round.{remaining-is}

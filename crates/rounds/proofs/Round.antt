@@ -8,7 +8,8 @@ use lib.Ieee.{Float}
 use Rattle.flexing.specs.declared.Line.{Line}
 use Rattle.flexing.specs.declared.Share.{Share}
 use Rattle.rounds.specs.declared.Sums.{Sums}
-use Rattle.flexing.specs.Flex.{Cell, total, left, taken, gaps, remaining, limited, share, violation, settle, round, _⊕_, _⊖_}
+use Rattle.grid.specs.Floats.{gaps, _⊕_, _⊖_}
+use Rattle.flexing.specs.Flex.{Cell, total, left, taken, remaining, limited, share, violation, settle, round}
 use Rattle.rounds.specs.Cells.{Summed}
 
 abbrev pub shared : Bool → Float → Float → Share

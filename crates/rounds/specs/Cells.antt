@@ -10,9 +10,10 @@ use lib.Ieee.{Float, nan}
 use Rattle.flexing.specs.declared.Item.{Item}
 use Rattle.flexing.specs.declared.Line.{Line}
 use Rattle.rounds.specs.declared.Sums.{Sums}
-use Rattle.flexing.specs.Items.{Lists, count, itemAt, each}
+use Rattle.flexing.specs.Items.{Lists, count, itemAt}
 use Rattle.flexing.specs.Accepted.{Measured}
-use Rattle.flexing.specs.Flex.{Cell, taken, factor, weight, total, left, after, Runs, _⊕_}
+use Rattle.grid.specs.Floats.{_⊕_, each}
+use Rattle.flexing.specs.Flex.{Cell, taken, factor, weight, total, left, after, Runs}
 
 -- ---- the table: a column of 1,024 cells for each number of an item
 

@@ -11,7 +11,8 @@ use lib.Ieee.{Float}
 use borrow.Rule.Slice.PartMut.{midOf, mid-len}
 use Rattle.flexlines.specs.Lines.{lineStart}
 use Rattle.linesize.specs.declared.container.Cross.{Cross}
-use Rattle.align.specs.Lists.{each, overwritten}
+use Rattle.grid.specs.Floats.{each}
+use Rattle.align.specs.Lists.{overwritten}
 use Rattle.linesize.specs.CrossSize.{Items, items, count, Even, lineOf}
 use Rattle.align.proofs.Each.{length-each, written-none, written-turn, written-length, written-all}
 use Rattle.sizelines.specs.Sizes.{crossLine, SizesReady, crossSizes}

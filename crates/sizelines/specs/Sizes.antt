@@ -6,7 +6,8 @@ use lib.Ieee.{Float}
 use Rattle.linesize.specs.declared.container.Cross.{Cross}
 use Rattle.align.specs.Lists.{overwritten}
 use Rattle.linesize.specs.CrossSize.{Items, items, count, Even, lineOf}
-use Rattle.bylines.specs.Parts.{part, Division}
+use Rattle.flexlines.specs.Lines.{part}
+use Rattle.bylines.specs.Parts.{Division}
 
 -- the items of line j
 abbrev pub crossLine : List ℕ → ℕ → Items → Items

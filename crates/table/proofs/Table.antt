@@ -9,22 +9,22 @@ use native.Mathlib.Nat.{eq-or-lt-of-le, le-of-suc-le-suc}
 use native.Mathlib.Omega.{arith}
 use lib.Dec.{T, leb, ltb, ltb→lt, leb→le}
 use lib.ListN.{length, drop}
-use lib.IntN.{ℤ, pos}
-use lib.Ieee.{Float, inf, binary32, ofInt, ofBits, add, sub, neg, mul, div, lt, le, eq}
+use lib.Ieee.{Float, ofInt, ofBits, add, sub, neg, mul, div, lt, le, eq}
 use Rattle.grid.specs.Grid.{sixtyFourths, cleaned}
 use Rattle.breaking.specs.Breaking.{Limit, fits, lineSize, taken, linesOf, greedy}
 use Rattle.rule.specs.Rule.{Balanced}
 use Rattle.rule.proofs.Unique.{balanced-one}
 use Rattle.flexing.specs.declared.Item.{Item}
 use Rattle.flexing.specs.declared.Line.{Line}
-use Rattle.flexing.specs.Flex.{Cell, Flexed, Runs, sumFrom, clamp, sumUnits, inflexible, left, gaps, limited, share, flexed, violation, freezes, settle, round, after, freeBefore, targets, lineOf, begun, unfrozen}
+use Rattle.grid.specs.Floats.{gaps, each}
+use Rattle.flexing.specs.Flex.{Cell, Runs, sumFrom, clamp, sumUnits, inflexible, left, limited, share, flexed, violation, freezes, settle, round, after, freeBefore, targets, lineOf, begun, unfrozen}
 use Rattle.flexing.proofs.Falls.{rounds-one}
 use Rattle.align.specs.declared.Distribution.{Distribution}
-use Rattle.align.specs.declared.Distribution.the-variants.{Stretch, SpaceBetween}
+use Rattle.align.specs.declared.Distribution.the-variants.{Stretch}
 use Rattle.align.specs.declared.ContentAlignment.the-variants.{Spread}
 use Rattle.align.specs.Align.{fallback, madeSafe, positioned, firstOffset, laterOffset}
 use Rattle.align.specs.Axis as axis
-use Rattle.align.specs.Lists.{total, each, overwritten}
+use Rattle.align.specs.Lists.{total, overwritten}
 use Rattle.mainaxis.specs.MainAxis as main
 use Rattle.linesize.specs.Container.{readCross, bounded, isReversed}
 use Rattle.crossaxis.specs.Lines.{gainTo, gain, grown, grownAt, lineGain, containerSize, freeCross, Aligned}
@@ -165,7 +165,7 @@ _&_ : {A B : Type 0} → A → B → A × B
 a & b = (a, b)
 
 computed : All table
-unfolding table greedy linesOf taken fits lineSize float half none flexible sumFrom clamp sumUnits inflexible left gaps limited share flexed violation freezes settle round after sixtyFourths each ten main.outer main.freeSpace main.autoCount main.justified axis.margin axis.autos axis.offsets axis.stepped fallback madeSafe positioned firstOffset laterOffset container readCross total axis.gaps bounded gainTo gain grown lineGain cleaned ofInt ofBits add sub neg mul div lt le eq
+unfolding table greedy linesOf taken fits lineSize float half none flexible sumFrom clamp sumUnits inflexible left gaps limited share flexed violation freezes settle round after sixtyFourths each ten main.outer main.freeSpace main.autoCount main.justified axis.margin axis.autos axis.offsets axis.stepped fallback madeSafe positioned firstOffset laterOffset container readCross total bounded gainTo gain grown lineGain cleaned ofInt ofBits add sub neg mul div lt le eq
 computed =
     (2 ∷ 1 ∷ [], tt)
     & (1 ∷ 2 ∷ [], tt)

@@ -8,7 +8,7 @@ use native.Mathlib.Omega.{arith}
 use lib.ListN.{length, getD, set, drop, replicate, length-replicate, replicate-append-replicate}
 use lib.Seq.{drop-cons, drop-drop, set-at, take-at, drop-append-add}
 use Rattle.breaking.specs.Steps.{Listed, filled, cleared}
-use Rattle.flexing.specs.Items.{each}
+use Rattle.grid.specs.Floats.{each}
 use Rattle.rounds.proofs.Each.{length-each}
 use Rattle.wrapping.specs.Wrapping.{oneLine}
 

@@ -18,7 +18,7 @@ use Rattle.breaking.specs.Calls.{units}
 use Rattle.breaking.specs.Steps.{LengthLimit, Breakable}
 use Rattle.flexing.specs.declared.Item.{Item}
 use Rattle.flexing.specs.Flex.{outer, hypothetical, outerUnits, outerSum}
-use Rattle.flexing.specs.Items.{each}
+use Rattle.grid.specs.Floats.{each}
 use Rattle.flexing.specs.Accepted.{Measured}
 use Rattle.rounds.specs.Cells.{itemIn, itemsIn, Tabled}
 use Rattle.rounds.proofs.Each.{length-each, map-each, each-ext, outer-none, outer-snoc}

@@ -1,11 +1,8 @@
 -- The lines' sizes by their items, and then the lines along the axis. Assumes nothing.
 use mathlib.Core.Path.{_≡_, sym, ap, _∙_}
 use native.Mathlib.Nat.{le-trans, le-of-eq}
-use mathlib.Core.List.{List, []}
 use lib.ListN.{length, take}
-use lib.Ieee.{Float}
 use denote.Ref.{now}
-use Rattle.sizelines.specs.Sizes.{crossSizes}
 use Rattle.container.specs.Columns.{crossItems}
 use Rattle.container.specs.Container.{crossAxis}
 use Rattle.crossstage.proofs.CrossLaws.{aligned-as, asked-are, front-long}

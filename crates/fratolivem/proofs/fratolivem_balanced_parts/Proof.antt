@@ -1,6 +1,6 @@
 -- `fratolivem::fratolivem_balanced_parts` meets its contract: a kind that names nothing is refused by the checks, and one that names a space
 -- changes nothing of what the checks say, so that the call inside answers. Assumes nothing.
-use mathlib.Core.Path.{_≡_, sym, ap, _∙_}
+use mathlib.Core.Path.{sym, ap, _∙_}
 use Prim.Native.Nat.{zero-le}
 use Rattle.refusal.specs.Domain.{code}
 use Rattle.refusal.proofs.Checks.{least-one}
@@ -9,7 +9,8 @@ use Rattle.breaking.specs.Calls.{breakingVerdict}
 use Rattle.balance.specs.Calls.{Lent, lent}
 use Rattle.balance.proofs.Call.{verdict-is}
 use Rattle.crossing.specs.Crossing.{cAnswer}
-use Rattle.fratolivem.specs.Boundary.{spaceOf, kindNumber}
+use Rattle.breaking.specs.Limit.{spaceOf}
+use Rattle.fratolivem.specs.Boundary.{kindNumber}
 use Rattle.fratolivem.proofs.Codes.{balanced-unnamed, balanced-named}
 use borrow.Author.Needs.{needs}
 use Rattle.fratolivem.proofs.fratolivem_balanced_parts.Statement.{statement}

@@ -1,9 +1,9 @@
 -- `fratolivem::fratolivem_break_limit` meets its contract: codes, space and bounds make the query, and the call inside answers it. Assumes nothing.
-use mathlib.Core.Path.{_≡_, sym, ap, ap₂, _∙_}
+use mathlib.Core.Path.{_≡_, ap, ap₂, _∙_}
 use Rattle.refusal.specs.declared.Verdict.{Verdict}
 use Rattle.breaking.specs.declared.Query.{Query}
-use Rattle.breaking.specs.Limit.{limitFrom, limitVerdict}
-use Rattle.fratolivem.specs.Boundary.{Asked, askedCodes, queryOf, cLimit, spaceOf, boundOf, flag, limitFromC}
+use Rattle.breaking.specs.Limit.{limitFrom, limitVerdict, spaceOf}
+use Rattle.fratolivem.specs.Boundary.{Asked, askedCodes, queryOf, cLimit, boundOf, flag, limitFromC}
 use Rattle.fratolivem.specs.declared.CLimit.{CLimit}
 use Rattle.breaking.specs.declared.AvailableSpace.{AvailableSpace}
 use Rattle.breaking.specs.declared.Bound.{Bound}

@@ -1,19 +1,16 @@
 -- `fratolivem::fratolivem_greedy` meets its contract: a kind that names nothing is refused by the checks, and one that names a space
 -- changes nothing of what the checks say, so that the call inside answers. Assumes nothing.
-use mathlib.Core.Path.{_≡_, sym, ap, ap₂, _∙_, subst}
-use mathlib.Core.List.{List}
-use Prim.Native.Nat.{ℕ, zero-le}
+use mathlib.Core.Path.{sym, ap, _∙_}
+use Prim.Native.Nat.{zero-le}
 use denote.Ref.{now}
 use lib.Dec.{leb}
 use lib.ListN.{length}
-use Rattle.refusal.specs.Domain.{code, asAnswer}
+use Rattle.refusal.specs.Domain.{code}
 use Rattle.refusal.proofs.Checks.{least-one}
-use Rattle.refusal.specs.declared.Answer.{Answer}
-use Rattle.refusal.specs.declared.Verdict.{Verdict}
 use Rattle.breaking.specs.declared.AvailableSpace.{AvailableSpace}
 use Rattle.breaking.specs.Calls.{breakingVerdict, Broken, greedyCall}
 use Rattle.crossing.specs.Crossing.{cAnswer}
-use Rattle.fratolivem.specs.Boundary.{spaceOf, kindNumber, greedyFromC}
+use Rattle.fratolivem.specs.Boundary.{kindNumber}
 use Rattle.fratolivem.proofs.Codes.{unnamed, named}
 use borrow.Author.Needs.{needs}
 use Rattle.fratolivem.proofs.fratolivem_greedy.Statement.{statement}

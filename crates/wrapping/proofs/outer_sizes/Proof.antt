@@ -10,7 +10,7 @@ use denote.Ref.{now}
 use borrow.Author.Needs.{needs}
 use Rattle.flexing.specs.declared.Item.{Item}
 use Rattle.flexing.specs.Flex.{outer, hypothetical}
-use Rattle.flexing.specs.Items.{each}
+use Rattle.grid.specs.Floats.{each}
 use Rattle.rounds.specs.Cells.{itemIn}
 use Rattle.rounds.proofs.Each.{map-each}
 use Rattle.wrapping.proofs.Cells.{each-none, each-more}

@@ -3,8 +3,7 @@ use mathlib.Core.Path.{_≡_, refl, ap}
 use Prim.Native.Nat.{ℕ, zero, suc, _-_}
 use native.Mathlib.Omega.{arith}
 use lib.Ieee.{Float}
-use Rattle.align.specs.Align.{_⊗_, nought, counted}
-use Rattle.align.specs.Axis.{gaps}
+use Rattle.grid.specs.Floats.{_⊗_, counted, gaps}
 use Rattle.align.proofs.Counts.{few}
 use borrow.Author.Needs.{needs}
 use Rattle.align.proofs.axis.sum_axis_gaps.Statement.{statement}

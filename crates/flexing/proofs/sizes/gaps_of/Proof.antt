@@ -7,7 +7,7 @@ use native.Mathlib.Omega.{arith}
 use lib.Dec.{T, lit≤, le→leb}
 use lib.IntN.{pos}
 use lib.Ieee.{Float, binary32, inFloat, ofInt}
-use Rattle.flexing.specs.Flex.{gaps, nought, _⊗_}
+use Rattle.grid.specs.Floats.{gaps, nought, _⊗_}
 use Rattle.flexing.proofs.sizes.gaps_of.Statement.{statement}
 use Rattle.flexing.proofs.sizes.gaps_of.Tie as tie
 

@@ -14,7 +14,7 @@ use Rattle.pass.proofs.stages.break_items.Reads as reads
 use Rattle.pass.proofs.stages.break_items.Lts as lts
 use Rattle.grid.proofs.clean.Reads as clean-reads
 use Rattle.pass.proofs.stages.mode_of.Reads as mode-of-reads
-use Rattle.pass.proofs.stages.space_of.Reads as space-of-reads
+use Rattle.breaking.proofs.space_of.Reads as space-of-reads
 use Rattle.wrapping.proofs.break_lines.Reads as break-lines-reads
 use Rattle.wrapping.proofs.outer_sizes.Reads as outer-sizes-reads
 

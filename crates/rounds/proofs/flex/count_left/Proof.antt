@@ -7,7 +7,7 @@ use native.Mathlib.Omega.{arith}
 use lib.Ieee.{Float}
 use denote.Ref.{now}
 use Rattle.flexing.specs.Flex.{unfrozen}
-use Rattle.flexing.specs.Items.{each}
+use Rattle.grid.specs.Floats.{each}
 use Rattle.rounds.specs.Cells.{cellAt}
 use Rattle.rounds.proofs.Each.{unfrozen-none, count-turn, count-pass}
 use Rattle.rounds.proofs.flex.count_left.Statement.{statement}

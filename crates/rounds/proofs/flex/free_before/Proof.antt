@@ -12,7 +12,8 @@ use denote.Ref.{now}
 use Rattle.grid.specs.Grid.{Length, sixtyFourths}
 use Rattle.grid.proofs.to_sixtyfourths.Reads as to-sixtyfourths-reads
 use Rattle.flexing.specs.declared.Item.{Item}
-use Rattle.flexing.specs.Flex.{total, outer, hypothetical, gaps, freeBefore, _⊕_}
+use Rattle.grid.specs.Floats.{gaps, _⊕_}
+use Rattle.flexing.specs.Flex.{total, outer, hypothetical, freeBefore}
 use Rattle.rounds.specs.Cells.{itemIn, itemsIn}
 use Rattle.rounds.proofs.Each.{length-each}
 use Rattle.flexing.proofs.Units.{used-length, usedUnits, subtracted}

@@ -8,7 +8,7 @@ use lib.Ieee.{Float}
 use denote.Ref.{now}
 use Rattle.flexing.specs.declared.Item.{Item}
 use Rattle.flexing.specs.Flex.{total, outer, hypothetical}
-use Rattle.flexing.specs.Items.{each}
+use Rattle.grid.specs.Floats.{each}
 use Rattle.rounds.specs.Cells.{itemIn}
 use Rattle.rounds.proofs.Each.{total-none, sum-turn}
 use Rattle.rounds.proofs.flex.hypothetical_sum.Statement.{statement}

@@ -11,7 +11,7 @@ use denote.Ref.{now}
 use Rattle.flexing.specs.declared.Item.{Item}
 use Rattle.rounds.specs.declared.Sums.{Sums}
 use Rattle.flexing.specs.Flex.{Cell, taken, factor, weight}
-use Rattle.flexing.specs.Items.{each}
+use Rattle.grid.specs.Floats.{each}
 use Rattle.rounds.specs.Cells.{cellAt, Added, Summed}
 use Rattle.rounds.proofs.Each.{total-none, left-none, sum-turn, left-sum}
 use Rattle.rounds.proofs.rounds.sum_up.Statement.{statement}

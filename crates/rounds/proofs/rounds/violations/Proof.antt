@@ -9,7 +9,7 @@ use lib.Ieee.{Float}
 use denote.Ref.{now}
 use Rattle.flexing.specs.declared.Item.{Item}
 use Rattle.flexing.specs.Flex.{total, left, violation}
-use Rattle.flexing.specs.Items.{each}
+use Rattle.grid.specs.Floats.{each}
 use Rattle.rounds.specs.Cells.{cellAt}
 use Rattle.rounds.proofs.Each.{left-none, left-turn, left-pass}
 use Rattle.rounds.proofs.rounds.violations.Statement.{statement}

@@ -10,7 +10,7 @@ use Rattle.grid.proofs.to_sixtyfourths.Reads as to-sixtyfourths-reads
 use Rattle.single.proofs.add_outer.Reads as add-outer-reads
 use Rattle.flexing.specs.declared.Item.{Item}
 use Rattle.flexing.specs.Flex.{outerUnits, outerSum}
-use Rattle.flexing.specs.Items.{each}
+use Rattle.grid.specs.Floats.{each}
 use Rattle.flexing.specs.Accepted.{Measured}
 use Rattle.rounds.specs.Cells.{itemIn}
 use Rattle.rounds.proofs.Each.{outer-none, outer-turn}

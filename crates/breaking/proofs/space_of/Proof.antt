@@ -1,12 +1,12 @@
--- `fratolivem::space_of` meets its contract, by the three kinds. Assumes nothing.
+-- `breaking::space_of` meets its contract, by the three kinds. Assumes nothing.
 use mathlib.Core.Path.{_≡_, refl, sym, ap}
 use Prim.Native.Nat.{ℕ, zero, suc}
 use lib.Ieee.{Float}
 use Rattle.breaking.specs.declared.AvailableSpace.the-variants.{MaxContent}
-use Rattle.fratolivem.specs.Boundary.{spaceOf}
+use Rattle.breaking.specs.Limit.{spaceOf}
 use borrow.Author.Needs.{needs}
-use Rattle.fratolivem.proofs.space_of.Statement.{statement}
-use Rattle.fratolivem.proofs.space_of.Tie as tie
+use Rattle.breaking.proofs.space_of.Statement.{statement}
+use Rattle.breaking.proofs.space_of.Tie as tie
 
 other : (k : ℕ) (x : Float) → ¬ (k ≡ 0) → ¬ (k ≡ 1) → MaxContent ≡ spaceOf k x
 other zero x a b = absurd (a refl)
