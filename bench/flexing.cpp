@@ -50,15 +50,6 @@ fratolivem::flexed ours(const Line &l, std::vector<float> &targets) {
     return fratolivem::flex_line(l.container.inner_main, l.container.gap_main, items, targets);
 }
 
-// Clearing a table of the size that the call keeps in its frame, by itself: the language has no cells that hold nothing.
-void clear() {
-    static float table[8192];
-    static bool frozen[1024];
-    std::memset(table, 0, sizeof table);
-    std::memset(frozen, 0, sizeof frozen);
-    asm volatile("" : : "r"(table), "r"(frozen) : "memory");
-}
-
 void flexing(const char *name, std::size_t n, Way way, std::size_t count, int repetitions) {
     std::vector<Line> lines;
     while (lines.size() < count) lines.push_back(line(n, way));
@@ -74,13 +65,14 @@ void flexing(const char *name, std::size_t n, Way way, std::size_t count, int re
         rounds += a.rounds;
         differ += !a || std::memcmp(here.data(), there.data(), n * sizeof(float)) != 0;
     }
-    // The same line with a sum that is refused last of all: what is left of the call is its checks, the clearing and the reading of the items.
+    // The same line with a sum that is refused last of all: what is left of the call is its checks, and its frame cleared and the items read into it.
+    // The rest, "9.7", is what the Rust does too.
     std::vector<Line> refused = lines;
     for (Line &l : refused) l.base.back() = l.maximum.back() = 262144.0f;
     const auto t = measure(count, repetitions,
                            {[&](std::size_t i) { judge_line_flex(rust[i]); }, [&](std::size_t i) { (void)ours(lines[i], here); },
-                            [&](std::size_t i) { (void)ours(refused[i], here); }, [](std::size_t) { clear(); }});
-    std::printf("%-12s %5zu %7.2f %9.0f %9.0f %7.3f %9.0f %9.0f %7.3f %6zu\n", name, n, rounds / double(count), t[0], t[1], t[1] / t[0], t[2], t[3],
+                            [&](std::size_t i) { (void)ours(refused[i], here); }});
+    std::printf("%-12s %5zu %7.2f %9.0f %9.0f %7.3f %9.0f %7.3f %6zu\n", name, n, rounds / double(count), t[0], t[1], t[1] / t[0], t[2],
                 (t[1] - t[2]) / t[0], differ);
     std::fflush(stdout);
     for (judge_line *l : rust) judge_line_drop(l);
@@ -92,7 +84,7 @@ int main(int argc, char **argv) {
     const int repetitions = argc > 1 ? std::atoi(argv[1]) : 200;
     const std::size_t count = argc > 2 ? std::size_t(std::atoi(argv[2])) : 200;
     std::printf("flexing one line, %d repetitions; ns for one line, checks counted\n", repetitions);
-    std::printf("%-12s %5s %7s %9s %9s %7s %9s %9s %7s %6s\n", "", "n", "rounds", "Rust", "ours", "ratio", "checks", "clearing", "without", "differ");
+    std::printf("%-12s %5s %7s %9s %9s %7s %9s %7s %6s\n", "", "n", "rounds", "Rust", "ours", "ratio", "checks", "9.7", "differ");
     for (std::size_t n : {4, 32, 1024}) {
         const std::size_t lines = n == 1024 ? std::max<std::size_t>(chunk, count / 10) : count;
         flexing("growing", n, Way::growing, lines, repetitions);
