@@ -10,7 +10,7 @@ use lib.Dec.{T, leb, ltb, eqb, ltb→lt, lt→ltb, nltb→le, leb→le, nleb→l
 use lib.Pow.{pow-add, pow-pos, pow-lt, pow-mono}
 use lib.IntN.{ℤ, pos, negsuc, negℤ, natAbs, _+ℤ_, _-ℤ_}
 use lib.Ieee.{Float, nan, inf, fin, Format, binary32, binary64, prec, emax, low, up, down, size, round, sum, add, sub, neg, lt, eq, fits, level, below}
-use lib.Ieee.Fits.{down-pos, up-pos, kept-lt, nearest-le}
+use lib.Ieee.Fits.{down-pos, up-pos, kept-lt, nearest-le, neg-fits}
 use lib.Ieee.Digits.{size-lt, size-le, size-reaches}
 use lib.Ieee.Scale.{finite, grid, overflow, round-val}
 use lib.Ieee.Order.{drop, kept}
@@ -249,3 +249,35 @@ neg-not-below (inf true) h = refl
 neg-not-below (inf false) h = sym h
 neg-not-below (fin true m e) h = no-less (m * up e * 1) (down e)
 neg-not-below (fin false m e) h = absurd (subst T (sym (sym (no-less (m * up e * 1) (down e)) ∙ h)) tt)
+
+-- ---- the test of any finite float
+finite-neg : (x : Float) → finite (neg x) ≡ finite x
+unfolding neg
+finite-neg nan = refl
+finite-neg (inf s) = refl
+finite-neg (fin s m e) = refl
+
+abbrev tested : Format → Float → Bool
+tested f m = not (lt m (two^ (top f))) || eq (nudged f m) m
+
+tested-from-0 : (f : Format) (x : Float) → T (fits f x) → finite x ≡ true → lt x none ≡ false → tested f x ≡ onGrid x
+tested-from-0 f x t h k = go (lt x (two^ (top f))) refl
+  where
+    go : (b : Bool) → lt x (two^ (top f)) ≡ b → (not b || eq (nudged f x) x) ≡ onGrid x
+    go true e = nudge f x k e
+    go false e = sym h ∙ far f x t k e
+
+-- the magnitude m of x is tested
+pub multiple : (f : Format) (x m : Float) → T (fits f x) → finite x ≡ true → m ≡ cond (lt x none) (neg x) x → (not (lt m (two^ (top f))) || eq (nudged f m) m) ≡ onGrid x
+multiple f x m t h p = ap (tested f) p ∙ go (lt x none) refl
+  where
+    go : (b : Bool) → lt x none ≡ b → tested f (cond b (neg x) x) ≡ onGrid x
+    go true e = tested-from-0 f (neg x) (neg-fits f x t) (finite-neg x ∙ h) (neg-not-below x e) ∙ grid-neg x
+    go false e = tested-from-0 f x t h e
+
+-- no other float is on the grid
+pub finite-grid : (x : Float) (b : Bool) → (finite x ≡ true → b ≡ onGrid x) → (finite x && b) ≡ onGrid x
+unfolding onGrid
+finite-grid nan b h = refl
+finite-grid (inf s) b h = refl
+finite-grid (fin s m e) b h = h refl

@@ -2,8 +2,8 @@
 ghost use mathlib.Core.Path.{_≡_};
 ghost use Prim.Native.Nat.{_≤_};
 ghost use lib.IntN.{natAbs};
-ghost use mathlib.Core.Bool.{false};
-ghost use lib.Ieee.{lt};
+ghost use mathlib.Core.Bool.{true, cond};
+ghost use lib.Ieee.{lt, neg};
 ghost use lib.Ieee.Scale.{finite};
 ghost use Rattle.grid.specs.Grid.{At, none, onGrid, Length, sixtyFourths, cleaned};
 
@@ -17,28 +17,27 @@ pub fn is_finite(x: f32) -> bool
     x - x == 0.0
 }
 
-// Whether x, which is not below 0, is a whole multiple of 1/64. From 131,072 px up every float is. Below, adding 131,072 px moves x to the
-// nearest multiple, since there the floats are just the multiples, and taking them away again gives x back only where it was one. (A
-// remainder by 1/64 is a call of C's fmodf, and a product by 64 overflows.)
-fn on_grid_from_0(x: f32) -> bool
-    ensures { λ r. ⌜ (lt x none ≡ false → r ≡ onGrid x) ⌝ }
+fn magnitude(x: f32) -> f32
+    ensures { λ r. ⌜ r ≡ cond (lt x none) (neg x) x ⌝ }
 {
-    if x < 131072.0 {
-        x + 131072.0 - 131072.0 == x
-    } else {
-        is_finite(x)
-    }
+    if x < 0.0 { -x } else { x }
+}
+
+// Whether x, which is finite, is a whole multiple of 1/64. From 131,072 px up every float is. Below, adding 131,072 px moves x to the nearest
+// multiple, since there the floats are just the multiples, and taking them away again gives x back only where it was one. (A remainder by
+// 1/64 is a call of C's fmodf, and a product by 64 overflows.) No branch, so that a list is tested several numbers at a time.
+pub fn is_multiple(x: f32) -> bool
+    ensures { λ r. ⌜ (finite x ≡ true → r ≡ onGrid x) ⌝ }
+{
+    let m = magnitude(x);
+    !(m < 131072.0) | (m + 131072.0 - 131072.0 == m)
 }
 
 // Whether x is a whole multiple of 1/64.
 pub fn on_grid(x: f32) -> bool
     ensures { λ r. ⌜ r ≡ onGrid x ⌝ }
 {
-    if x < 0.0 {
-        on_grid_from_0(-x)
-    } else {
-        on_grid_from_0(x)
-    }
+    is_finite(x) & is_multiple(x)
 }
 
 // A length in sixty-fourths. Adding 0.0 turns -0.0, which no cast takes, into 0.0.

@@ -10,18 +10,26 @@ ghost use Rattle.grid.specs.Grid.{Length, sixtyFourths};
 ghost use Rattle.refusal.specs.Domain.{float, code};
 ghost use Rattle.refusal.specs.Marks.{mark, leastOf, leastUpTo, sumUpTo, Lengths};
 ghost use Rattle.refusal.specs.Optional.{optional};
+use crate::fine::are_fine;
+use crate::fine::are_fine_where;
+use crate::fine::are_named;
 use refusal::Kind;
 use refusal::Mark;
 use refusal::least;
 use refusal::no_mark;
 
+mod fine; // fine.rt: whether a list has no mark at all
 pub mod lists; // lists.rt: the marks of whole lists, as numbers that the items have
 
-// The least mark of a list of items' numbers.
+// The least mark of a list of items' numbers. Most lists have none, which is soon told of all numbers together; only then are they gone
+// through one by one.
 pub fn mark_floats(kind: Kind, xs: &[f32]) -> Mark
     requires { ⌜ length (now xs) ≤ 1024 ⌝ }
     ensures { λ r. ⌜ r .0 ≡ leastUpTo (λ i. mark (float kind (getD (now (xs .entry)) i nan)) (i + 1)) (length (now (xs .entry))) ⌝ }
 {
+    if are_fine(kind, xs) {
+        return no_mark();
+    }
     let mut m = no_mark();
     let mut i = 0;
     while i < xs.len() {
@@ -36,6 +44,9 @@ pub fn mark_floats_where<'a>(kind: Kind, xs: &'a [f32], codes: &'a [u32], taken:
     requires { ⌜ (length (now xs) ≤ 1024) × (length (now codes) ≡ length (now xs)) ⌝ }
     ensures { λ r. ⌜ r .0 ≡ leastUpTo (λ i. leastOf (optional (eqb (getD (now (codes .entry)) i 0) taken) (float kind (getD (now (xs .entry)) i nan))) (i + 1)) (length (now (xs .entry))) ⌝ }
 {
+    if are_fine_where(kind, xs, codes, taken) {
+        return no_mark();
+    }
     let mut m = no_mark();
     let mut i = 0;
     while i < xs.len() {
@@ -54,6 +65,9 @@ pub fn mark_codes(most: u32, codes: &[u32]) -> Mark
     requires { ⌜ length (now codes) ≤ 1024 ⌝ }
     ensures { λ r. ⌜ r .0 ≡ leastUpTo (λ i. mark (code most (getD (now (codes .entry)) i 0)) (i + 1)) (length (now (codes .entry))) ⌝ }
 {
+    if are_named(most, codes) {
+        return no_mark();
+    }
     let mut m = no_mark();
     let mut i = 0;
     while i < codes.len() {

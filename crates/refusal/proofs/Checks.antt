@@ -223,6 +223,11 @@ fine-margin {x} f =
     let w = T-of (within 131072 x) (f .range) in
     (length-of 131072 x (omega arith) g w, within-small 131072 x g .0 w)
 
+-- "-0.0 reads as 0": a size may be -0.0
+pub minus-zero : inRange kind.Size (neg (ofBits binary32 0)) ≡ true
+unfolding inRange within neg ofBits le
+minus-zero = refl
+
 -- a length that is not below 0
 not-below : (x : Float) → T (onGrid x) → T (notBelow0 x) → (n : ℕ) × (sixtyFourths x ≡ pos n)
 not-below x g t = go (sixtyFourths x) (subst T (ap (λ (z : Float). le z x) none-bits ∙ le-at 64 (omega arith) (none-at 64) (at-of-grid x g)) t)
@@ -251,11 +256,6 @@ fine-worked {x} f = (not-false (finite x) (f .finite), T-of (within 16777216 x) 
 pub fine-code : {most c : ℕ} → Fine (code most c) → c ≤ most
 unfolding outOfRange
 fine-code {most} {c} f = ltb-false most c (f .range)
-
--- "-0.0 reads as 0": a size may be -0.0
-pub minus-zero : inRange kind.Size (neg (ofBits binary32 0)) ≡ true
-unfolding inRange within neg ofBits le
-minus-zero = refl
 
 -- ---- a refusal on paper: its number is one of 1 to 6, with no lines and no rounds
 pub refused-paper : (why : Refusal) → let p = paper (answer.Refused why) in (1 ≤ p .number) × (p .number ≤ 6) × (p .lines ≡ 0) × (p .rounds ≡ 0)

@@ -3,48 +3,56 @@
 ghost use mathlib.Core.Path.{_≡_};
 ghost use Prim.Native.Nat.{_+_, _≤_};
 ghost use lib.IntN.{natAbs};
-ghost use Rattle.refusal.specs.Domain.{gridded, offGrid, inRange, float, code};
+ghost use Rattle.refusal.specs.declared.Kind.{Kind};
+ghost use Rattle.refusal.specs.Domain.{offGrid, inRange, float, code};
 ghost use Rattle.refusal.specs.Marks.{mark, leastOf};
 ghost use Rattle.refusal.specs.Optional.{optional};
+ghost use Rattle.single.specs.Bounds.{between, boundsOf, fine};
 use refusal::Kind;
 use refusal::Mark;
 
-fn has_grid(kind: Kind) -> bool
-    ensures { λ r. ⌜ r ≡ gridded kind ⌝ }
+// The least and the greatest number of a kind, and whether it is free of the grid.
+pub struct Bounds {
+    pub low: f32,
+    pub high: f32,
+    pub free: bool,
+}
+
+fn between(low: f32, high: f32, free: bool) -> Bounds
+    ensures { λ r. ⌜ r ≡ between low high free ⌝ }
+{
+    Bounds { low, high, free }
+}
+
+pub fn bounds_of(kind: Kind) -> Bounds
+    ensures { λ r. ⌜ r ≡ boundsOf kind ⌝ }
 {
     match kind {
-        Kind::Length => true,
-        Kind::Margin => true,
-        Kind::Size => true,
-        Kind::Factor => false,
-        Kind::Worked => false,
+        Kind::Length => between(-262144.0, 262144.0, false),
+        Kind::Margin => between(-131072.0, 131072.0, false),
+        Kind::Size => between(0.0, 262144.0, false),
+        Kind::Factor => between(0.0, 1024.0, true),
+        Kind::Worked => between(-16777216.0, 16777216.0, true),
     }
 }
 
-fn off_grid(kind: Kind, x: f32) -> bool
-    ensures { λ r. ⌜ r ≡ offGrid (float kind x) ⌝ }
+fn off_grid(b: Bounds, x: f32) -> bool
+    ensures { λ r. ⌜ ((kind : Kind) → b ≡ boundsOf kind → r ≡ offGrid (float kind x)) ⌝ }
 {
-    if has_grid(kind) {
-        !grid::on_grid(x)
-    } else {
-        false
-    }
+    !b.free & !grid::on_grid(x)
 }
 
-fn in_range(kind: Kind, x: f32) -> bool
-    ensures { λ r. ⌜ r ≡ inRange kind x ⌝ }
+fn in_range(b: Bounds, x: f32) -> bool
+    ensures { λ r. ⌜ ((kind : Kind) → b ≡ boundsOf kind → r ≡ inRange kind x) ⌝ }
 {
-    match kind {
-        Kind::Length => if x <= 262144.0 { x >= -262144.0 } else { false },
-        Kind::Margin => if x <= 131072.0 { x >= -131072.0 } else { false },
-        Kind::Size => if x <= 262144.0 { x >= 0.0 } else { false },
-        Kind::Factor => if x <= 1024.0 { x >= 0.0 } else { false },
-        Kind::Worked => if x <= 16777216.0 {
-            x >= -16777216.0
-        } else {
-            false
-        },
-    }
+    (x <= b.high) & (x >= b.low)
+}
+
+// Whether no check refuses x: what is in range is finite. No branch, so that a list is tested several numbers at a time.
+pub fn is_fine(b: Bounds, x: f32) -> bool
+    ensures { λ r. ⌜ ((kind : Kind) → b ≡ boundsOf kind → r ≡ fine (float kind x)) ⌝ }
+{
+    in_range(b, x) & (b.free | grid::is_multiple(x))
 }
 
 // The mark of a float. The container's place is 0, item i's is i + 1.
@@ -52,13 +60,14 @@ pub fn mark_float(kind: Kind, x: f32, place: u32) -> Mark
     requires { ⌜ place ≤ 1024 ⌝ }
     ensures { λ r. ⌜ r .0 ≡ mark (float kind x) place ⌝ }
 {
+    let b = bounds_of(kind);
     if !grid::is_finite(x) {
         return Mark(place);
     }
-    if off_grid(kind, x) {
+    if off_grid(b, x) {
         return Mark(2048 + place);
     }
-    if in_range(kind, x) {
+    if in_range(b, x) {
         Mark(6144)
     } else {
         Mark(4096 + place)

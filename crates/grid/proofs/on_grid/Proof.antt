@@ -1,27 +1,21 @@
--- `grid::on_grid` meets its contract: the sign of x does not count. Assumes nothing.
-use mathlib.Core.Path.{_≡_, sym, ap, _∙_}
+-- `grid::on_grid` meets its contract: what is not finite is not on the grid. Assumes nothing.
+use mathlib.Core.Path.{_≡_, ap, _∙_}
+use mathlib.Core.Bool.{Bool, _&&_}
 use borrow.Author.Needs.{needs}
-use lib.Ieee.{lt, neg}
-use Rattle.grid.proofs.Meaning.{none-bits}
-use Rattle.grid.proofs.Nudge.{grid-neg, neg-not-below}
+use Rattle.grid.proofs.Nudge.{finite-grid}
 use Rattle.grid.proofs.on_grid.Statement.{statement}
 use Rattle.grid.proofs.on_grid.Tie as tie
 
-requires-1 : tie.Need-on-grid-from-0-requires
-requires-1 c κs = search needs
+is-finite-requires : tie.Need-is-finite-requires
+is-finite-requires c κs = search needs
+
+is-multiple-requires : tie.Need-is-multiple-requires
+is-multiple-requires c κs = search needs
 
 returns : tie.Need-returns
 returns c =
-    let x = c .before .before .args .x in
-    c .on-grid-from-0 .ensures (neg-not-below x (sym (ap (lt x) none-bits) ∙ c .before .if1 .taken)) ∙ grid-neg x
-
-requires-2 : tie.Need-on-grid-from-0-requires-2
-requires-2 c κs = search needs
-
-returns-2 : tie.Need-returns-2
-returns-2 c =
-    let x = c .before .before .args .x in
-    c .on-grid-from-02 .ensures (sym (ap (lt x) none-bits) ∙ c .before .if1 .left)
+    let b = c .is-multiple .result in
+    ap (λ (a : Bool). a && b) (c .before .is-finite .ensures) ∙ finite-grid (c .before .before .args .x) b (c .is-multiple .ensures)
 
 pub on-grid-spec : {M : Type 1} → statement M
-on-grid-spec = tie.close (tie.spec requires-1 requires-2 returns returns-2)
+on-grid-spec = tie.close (tie.spec is-finite-requires is-multiple-requires returns)

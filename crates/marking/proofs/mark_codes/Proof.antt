@@ -5,10 +5,12 @@ use Prim.Native.Nat.{ℕ, _+_, _-_, _≤_, min}
 use native.Mathlib.Omega.{arith}
 use borrow.Author.Needs.{scaled-fits}
 use denote.Ref.{now}
+use lib.Dec.{leb}
 use lib.ListN.{length, getD}
 use Rattle.refusal.specs.Domain.{code}
 use Rattle.refusal.specs.Marks.{mark, leastUpTo}
 use Rattle.refusal.proofs.Sweep.{least-none, least-more}
+use Rattle.marking.proofs.Every.{no-marks, named-none}
 use Rattle.marking.proofs.mark_codes.Statement.{statement}
 use Rattle.marking.proofs.mark_codes.Tie as tie
 
@@ -21,14 +23,27 @@ Inv-loop most codes m₀ i₀ m i = (i ≤ length codes) × (m .0 ≡ leastUpTo 
 abbrev μ-loop : tie.MeasureT-loop
 μ-loop most codes m₀ i₀ m i = length codes - i
 
+are-named-requires : tie.Need-are-named-requires Inv-loop μ-loop
+are-named-requires c κs = tt
+
 no-mark-requires : tie.Need-no-mark-requires Inv-loop μ-loop
 no-mark-requires c κs = tt
 
+returns : tie.Need-returns Inv-loop μ-loop
+returns c =
+    let a = c .before .before .before .before .args in
+    let codes = now (a .codes) in
+    c .no-mark .ensures
+    ∙ sym (no-marks (marks (a .most) codes) (λ i. leb (getD codes i 0) (a .most)) (λ i e. named-none (a .most) (getD codes i 0) (i + 1) e) (length codes) (sym (c .before .before .are-named .ensures) ∙ c .before .if1 .taken))
+
+no-mark-requires-2 : tie.Need-no-mark-requires-2 Inv-loop μ-loop
+no-mark-requires-2 c κs = tt
+
 loop-holds : tie.Need-loop-holds Inv-loop μ-loop
-loop-holds c = let a = c .before .before .args in (omega arith, c .no-mark .ensures ∙ sym (least-none (marks (a .most) (now (a .codes)))))
+loop-holds c = let a = c .before .before .before .before .args in (omega arith, c .no-mark2 .ensures ∙ sym (least-none (marks (a .most) (now (a .codes)))))
 
 mul-mark-code : tie.Need-mul-mark-code Inv-loop μ-loop
-mul-mark-code c = let s = c .before .before .before .before in scaled-fits (c .before .loop .i) (length (now (s .args .codes))) 4 (c .loop-test .taken) (s .good .1 .0 .1)
+mul-mark-code c = let s = c .before .before .before .before .before .before in scaled-fits (c .before .loop .i) (length (now (s .args .codes))) 4 (c .loop-test .taken) (s .good .1 .0 .1)
 
 shared-slice-read-mark-code : tie.Need-shared-slice-read-mark-code Inv-loop μ-loop
 shared-slice-read-mark-code c = omega arith
@@ -54,12 +69,12 @@ loop-less c = omega arith
 loop-again : tie.Need-loop-again Inv-loop μ-loop
 loop-again c =
     let l = c .before .before .before .before in
-    let a = l .before .before .before .args in
+    let a = l .before .before .before .before .before .args in
     (omega arith, c .least .ensures ∙ ap₂ min (l .loop .inv .1) (c .before .mark-code .ensures) ∙ sym (least-more (marks (a .most) (now (a .codes))) (l .loop .i)))
 
-returns : tie.Need-returns Inv-loop μ-loop
-returns c =
-    let a = c .before .before .before .before .args in
+returns-2 : tie.Need-returns-2 Inv-loop μ-loop
+returns-2 c =
+    let a = c .before .before .before .before .before .before .args in
     let n : c .before .loop .i ≡ length (now (a .codes)) = omega arith in
     c .before .loop .inv .1 ∙ ap (leastUpTo (marks (a .most) (now (a .codes)))) n
 
@@ -69,7 +84,10 @@ mark-codes-spec =
     (tie.spec
     Inv-loop
     μ-loop
+    are-named-requires
     no-mark-requires
+    returns
+    no-mark-requires-2
     loop-holds
     mul-mark-code
     shared-slice-read-mark-code
@@ -80,4 +98,4 @@ mark-codes-spec =
     add-i
     loop-less
     loop-again
-    returns)
+    returns-2)

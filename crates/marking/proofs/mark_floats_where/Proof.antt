@@ -1,5 +1,6 @@
 -- The least mark of the numbers that are given: m is that of the items passed. Assumes nothing.
 use mathlib.Core.Path.{_≡_, sym, ap, ap₂, _∙_}
+use mathlib.Core.Bool.{not, _||_}
 use mathlib.Core.List.{List}
 use Prim.Native.Nat.{ℕ, _+_, _-_, _≤_, min}
 use native.Mathlib.Omega.{arith}
@@ -13,6 +14,8 @@ use Rattle.refusal.specs.Domain.{float}
 use Rattle.refusal.specs.Marks.{leastOf, leastUpTo}
 use Rattle.refusal.specs.Optional.{optional}
 use Rattle.refusal.proofs.Sweep.{least-none, least-more}
+use Rattle.single.specs.Bounds.{fine}
+use Rattle.marking.proofs.Every.{no-marks, given-none}
 use Rattle.marking.proofs.mark_floats_where.Statement.{statement}
 use Rattle.marking.proofs.mark_floats_where.Tie as tie
 
@@ -29,38 +32,54 @@ abbrev μ-loop : tie.MeasureT-loop
 abbrev given : tie.Start Inv-loop μ-loop → ℕ → ℕ
 given s = marks (s .args .kind) (now (s .args .xs)) (now (s .args .codes)) (s .args .taken)
 
+are-fine-where-requires : tie.Need-are-fine-where-requires Inv-loop μ-loop
+are-fine-where-requires c κs = c .before .before .pre .1
+
 no-mark-requires : tie.Need-no-mark-requires Inv-loop μ-loop
 no-mark-requires c κs = tt
 
+returns : tie.Need-returns Inv-loop μ-loop
+returns c =
+    let s = c .before .before .before .before .before in
+    let xs = now (s .args .xs) in
+    let codes = now (s .args .codes) in
+    c .no-mark .ensures
+    ∙ sym
+    (no-marks (given s) (λ i. not (eqb (getD codes i 0) (s .args .taken)) || fine (float (s .args .kind) (getD xs i nan)))
+    (λ i e. given-none (eqb (getD codes i 0) (s .args .taken)) (float (s .args .kind) (getD xs i nan)) (i + 1) e) (length xs) (sym (c .before .before .are-fine-where .ensures) ∙ c .before .if1 .taken))
+
+no-mark-requires-2 : tie.Need-no-mark-requires-2 Inv-loop μ-loop
+no-mark-requires-2 c κs = tt
+
 loop-holds : tie.Need-loop-holds Inv-loop μ-loop
-loop-holds c = (omega arith, c .no-mark .ensures ∙ sym (least-none (given (c .before .before .before))))
+loop-holds c = (omega arith, c .no-mark2 .ensures ∙ sym (least-none (given (c .before .before .before .before .before))))
 
 mul-c : tie.Need-mul-c Inv-loop μ-loop
-mul-c c = let s = c .before .before .before .before .before in scaled-fits (c .before .loop .i) (length (now (s .args .xs))) 4 (c .loop-test .taken) (s .good .1 .0 .1)
+mul-c c = let s = c .before .before .before .before .before .before .before in scaled-fits (c .before .loop .i) (length (now (s .args .xs))) 4 (c .loop-test .taken) (s .good .1 .0 .1)
 
 shared-slice-read-c : tie.Need-shared-slice-read-c Inv-loop μ-loop
-shared-slice-read-c c = omega (arith, c .before .loop-test .taken, c .before .before .before .before .before .before .pre .1)
+shared-slice-read-c c = omega (arith, c .before .loop-test .taken, c .before .before .before .before .before .before .before .before .pre .1)
 
 mul-mark-given : tie.Need-mul-mark-given Inv-loop μ-loop
-mul-mark-given c = let s = c .before .before .before .before .before .before in scaled-fits (c .before .before .loop .i) (length (now (s .args .xs))) 4 (c .before .loop-test .taken) (s .good .1 .0 .1)
+mul-mark-given c = let s = c .before .before .before .before .before .before .before .before in scaled-fits (c .before .before .loop .i) (length (now (s .args .xs))) 4 (c .before .loop-test .taken) (s .good .1 .0 .1)
 
 shared-slice-read-mark-given : tie.Need-shared-slice-read-mark-given Inv-loop μ-loop
 shared-slice-read-mark-given c = omega (arith, c .before .before .loop-test .taken)
 
 add-mark-given : tie.Need-add-mark-given Inv-loop μ-loop
-add-mark-given c = omega (arith, c .before .before .loop-test .taken, c .before .before .before .before .before .before .before .pre .0)
+add-mark-given c = omega (arith, c .before .before .loop-test .taken, c .before .before .before .before .before .before .before .before .before .pre .0)
 
 cast-mark-given : tie.Need-cast-mark-given Inv-loop μ-loop
-cast-mark-given c = omega (arith, c .before .before .loop-test .taken, c .before .before .before .before .before .before .before .pre .0)
+cast-mark-given c = omega (arith, c .before .before .loop-test .taken, c .before .before .before .before .before .before .before .before .before .pre .0)
 
 mark-given-requires : tie.Need-mark-given-requires Inv-loop μ-loop
-mark-given-requires c κs = omega (arith, c .before .before .loop-test .taken, c .before .before .before .before .before .before .before .pre .0)
+mark-given-requires c κs = omega (arith, c .before .before .loop-test .taken, c .before .before .before .before .before .before .before .before .before .pre .0)
 
 least-requires : tie.Need-least-requires Inv-loop μ-loop
 least-requires c κs = tt
 
 add-i : tie.Need-add-i Inv-loop μ-loop
-add-i c = omega (arith, c .before .before .before .before .loop-test .taken, c .before .before .before .before .before .before .before .before .before .pre .0)
+add-i c = omega (arith, c .before .before .before .before .loop-test .taken, c .before .before .before .before .before .before .before .before .before .before .before .pre .0)
 
 loop-less : tie.Need-loop-less Inv-loop μ-loop
 loop-less c = omega (arith, c .before .before .before .before .loop-test .taken)
@@ -68,11 +87,11 @@ loop-less c = omega (arith, c .before .before .before .before .loop-test .taken)
 loop-again : tie.Need-loop-again Inv-loop μ-loop
 loop-again c =
     let l = c .before .before .before .before .before in
-    (omega (arith, c .before .before .before .before .loop-test .taken), c .least .ensures ∙ ap₂ min (l .loop .inv .1) (c .before .mark-given .ensures) ∙ sym (least-more (given (l .before .before .before .before)) (l .loop .i)))
+    (omega (arith, c .before .before .before .before .loop-test .taken), c .least .ensures ∙ ap₂ min (l .loop .inv .1) (c .before .mark-given .ensures) ∙ sym (least-more (given (l .before .before .before .before .before .before)) (l .loop .i)))
 
-returns : tie.Need-returns Inv-loop μ-loop
-returns c =
-    let s = c .before .before .before .before .before in
+returns-2 : tie.Need-returns-2 Inv-loop μ-loop
+returns-2 c =
+    let s = c .before .before .before .before .before .before .before in
     let n : c .before .loop .i ≡ length (now (s .args .xs)) = omega (arith, c .loop-test .left, c .before .loop .inv .0) in
     c .before .loop .inv .1 ∙ ap (leastUpTo (given s)) n
 
@@ -82,7 +101,10 @@ mark-floats-where-spec =
     (tie.spec
     Inv-loop
     μ-loop
+    are-fine-where-requires
     no-mark-requires
+    returns
+    no-mark-requires-2
     loop-holds
     mul-c
     shared-slice-read-c
@@ -95,4 +117,4 @@ mark-floats-where-spec =
     add-i
     loop-less
     loop-again
-    returns)
+    returns-2)

@@ -19,54 +19,70 @@ marked kind x place a b d p q r =
     ap₂ (λ (s t : Bool). cond (not s) place (cond t (2048 + place) (cond (not d) (4096 + place) 6144))) p q
     ∙ ap (λ (t : Bool). cond (not (finite x)) place (cond (offGrid (float kind x)) (2048 + place) (cond (not t) (4096 + place) 6144))) r
 
+bounds-of-requires : tie.Need-bounds-of-requires
+bounds-of-requires c κs = search needs
+
 is-finite-requires : tie.Need-is-finite-requires
 is-finite-requires c κs = search needs
 
 returns : tie.Need-returns
-returns c = let a = c .before .before .args in marked (a .kind) (a .x) (a .place) false _ _ (sym (not-true _ (c .if1 .taken)) ∙ c .before .is-finite .ensures) refl refl
+returns c = let a = c .before .before .before .args in marked (a .kind) (a .x) (a .place) false _ _ (sym (not-true _ (c .if1 .taken)) ∙ c .before .is-finite .ensures) refl refl
 
 off-grid-requires : tie.Need-off-grid-requires
 off-grid-requires c κs = search needs
 
-add-t7 : tie.Need-add-t7
-add-t7 c = search needs
+add-t8 : tie.Need-add-t8
+add-t8 c = search needs
 
 returns-2 : tie.Need-returns-2
 returns-2 c =
     let e = c .before .before in
-    let a = e .before .before .args in
-    marked (a .kind) (a .x) (a .place) true true _ (sym (not-false _ (e .if1 .left)) ∙ e .before .is-finite .ensures) (sym (c .if2 .taken) ∙ c .before .off-grid .ensures) refl
+    let k = e .before .before in
+    let a = k .before .args in
+    marked (a .kind) (a .x) (a .place) true true _
+    (sym (not-false _ (e .if1 .left)) ∙ e .before .is-finite .ensures)
+    (sym (c .if2 .taken) ∙ c .before .off-grid .ensures (a .kind) (k .bounds-of .ensures))
+    refl
 
 in-range-requires : tie.Need-in-range-requires
 in-range-requires c κs = search needs
 
-add-t10 : tie.Need-add-t10
-add-t10 c = search needs
+add-t11 : tie.Need-add-t11
+add-t11 c = search needs
 
 returns-3 : tie.Need-returns-3
 returns-3 c =
     let g = c .before .before in
     let e = g .before .before in
-    let a = e .before .before .args in
-    marked (a .kind) (a .x) (a .place) true false true (sym (not-false _ (e .if1 .left)) ∙ e .before .is-finite .ensures) (sym (g .if2 .left) ∙ g .before .off-grid .ensures) (sym (c .if3 .taken) ∙ c .before .in-range .ensures)
+    let k = e .before .before in
+    let a = k .before .args in
+    marked (a .kind) (a .x) (a .place) true false true
+    (sym (not-false _ (e .if1 .left)) ∙ e .before .is-finite .ensures)
+    (sym (g .if2 .left) ∙ g .before .off-grid .ensures (a .kind) (k .bounds-of .ensures))
+    (sym (c .if3 .taken) ∙ c .before .in-range .ensures (a .kind) (k .bounds-of .ensures))
 
 returns-4 : tie.Need-returns-4
 returns-4 c =
     let g = c .before .before in
     let e = g .before .before in
-    let a = e .before .before .args in
-    marked (a .kind) (a .x) (a .place) true false false (sym (not-false _ (e .if1 .left)) ∙ e .before .is-finite .ensures) (sym (g .if2 .left) ∙ g .before .off-grid .ensures) (sym (c .if3 .left) ∙ c .before .in-range .ensures)
+    let k = e .before .before in
+    let a = k .before .args in
+    marked (a .kind) (a .x) (a .place) true false false
+    (sym (not-false _ (e .if1 .left)) ∙ e .before .is-finite .ensures)
+    (sym (g .if2 .left) ∙ g .before .off-grid .ensures (a .kind) (k .bounds-of .ensures))
+    (sym (c .if3 .left) ∙ c .before .in-range .ensures (a .kind) (k .bounds-of .ensures))
 
 pub mark-float-spec : {M : Type 1} → statement M
 mark-float-spec =
     tie.close
     (tie.spec
+    bounds-of-requires
     is-finite-requires
     returns
     off-grid-requires
-    add-t7
+    add-t8
     returns-2
     in-range-requires
-    add-t10
+    add-t11
     returns-3
     returns-4)

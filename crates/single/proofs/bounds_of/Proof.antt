@@ -1,0 +1,94 @@
+-- `single::bounds_of` meets its contract: the code's numbers, by their bits, are the table's. Assumes nothing.
+use mathlib.Core.Path.{_≡_, refl, sym, ap, _∙_}
+use mathlib.Core.Bool.{true, false}
+use borrow.Author.Needs.{needs}
+use lib.Ieee.{Float, binary32, neg, ofInt, ofBits}
+use Rattle.refusal.specs.declared.Kind.{Kind}
+use Rattle.refusal.specs.declared.Kind.the-variants.{Length, Margin, Size, Factor, Worked}
+use Rattle.single.specs.declared.Bounds.{Bounds}
+use Rattle.single.specs.Bounds.{between, boundsOf}
+use Rattle.single.proofs.bounds_of.Statement.{statement}
+use Rattle.single.proofs.bounds_of.Tie as tie
+
+abbrev written : Kind → Bounds
+written Length = between (neg (ofBits binary32 1216348160)) (ofBits binary32 1216348160) false
+written Margin = between (neg (ofBits binary32 1207959552)) (ofBits binary32 1207959552) false
+written Size = between (ofBits binary32 0) (ofBits binary32 1216348160) false
+written Factor = between (ofBits binary32 0) (ofBits binary32 1149239296) true
+written Worked = between (neg (ofBits binary32 1266679808)) (ofBits binary32 1266679808) true
+
+same : (kind : Kind) → written kind ≡ boundsOf kind
+unfolding ofBits ofInt
+same Length = refl
+same Margin = refl
+same Size = refl
+same Factor = refl
+same Worked = refl
+
+is : (kind known : Kind) → kind ≡ known → written known ≡ boundsOf kind
+is kind known e = same known ∙ ap boundsOf (sym e)
+
+enum-told : tie.Need-enum-told
+enum-told c = search needs
+
+between-requires : tie.Need-between-requires
+between-requires c κs = search needs
+
+enum-told-2 : tie.Need-enum-told-2
+enum-told-2 c = search needs
+
+between-requires-2 : tie.Need-between-requires-2
+between-requires-2 c κs = search needs
+
+enum-told-3 : tie.Need-enum-told-3
+enum-told-3 c = search needs
+
+between-requires-3 : tie.Need-between-requires-3
+between-requires-3 c κs = search needs
+
+enum-told-4 : tie.Need-enum-told-4
+enum-told-4 c = search needs
+
+between-requires-4 : tie.Need-between-requires-4
+between-requires-4 c κs = search needs
+
+enum-told-5 : tie.Need-enum-told-5
+enum-told-5 c = search needs
+
+between-requires-5 : tie.Need-between-requires-5
+between-requires-5 c κs = search needs
+
+returns : tie.Need-returns
+returns c = c .between .ensures ∙ is (c .before .before .before .args .kind) Length (c .before .enum-told .given .1)
+
+returns-2 : tie.Need-returns-2
+returns-2 c = c .between2 .ensures ∙ is (c .before .before .before .args .kind) Margin (c .before .enum-told2 .given .1)
+
+returns-3 : tie.Need-returns-3
+returns-3 c = c .between3 .ensures ∙ is (c .before .before .before .args .kind) Size (c .before .enum-told3 .given .1)
+
+returns-4 : tie.Need-returns-4
+returns-4 c = c .between4 .ensures ∙ is (c .before .before .before .args .kind) Factor (c .before .enum-told4 .given .1)
+
+returns-5 : tie.Need-returns-5
+returns-5 c = c .between5 .ensures ∙ is (c .before .before .before .args .kind) Worked (c .before .enum-told5 .given .1)
+
+pub bounds-of-spec : {M : Type 1} → statement M
+bounds-of-spec =
+    tie.close
+    (tie.spec
+    enum-told
+    between-requires
+    enum-told-2
+    between-requires-2
+    enum-told-3
+    between-requires-3
+    enum-told-4
+    between-requires-4
+    enum-told-5
+    between-requires-5
+    returns
+    returns-2
+    returns-3
+    returns-4
+    returns-5)

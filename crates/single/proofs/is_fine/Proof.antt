@@ -1,0 +1,23 @@
+-- `single::is_fine` meets its contract: `fine-is` of proofs/Fine. Assumes nothing.
+use mathlib.Core.Path.{_≡_, ap, ap₂, _∙_}
+use mathlib.Core.Bool.{Bool, _&&_, _||_}
+use borrow.Author.Needs.{needs}
+use Rattle.single.specs.declared.Bounds.{Bounds}
+use Rattle.single.proofs.Fine.{free-is, fine-is}
+use Rattle.single.proofs.is_fine.Statement.{statement}
+use Rattle.single.proofs.is_fine.Tie as tie
+
+in-range-requires : tie.Need-in-range-requires
+in-range-requires c κs = search needs
+
+is-multiple-requires : tie.Need-is-multiple-requires
+is-multiple-requires c κs = search needs
+
+returns : tie.Need-returns
+returns c kind e =
+    let g = c .before .is-multiple .result in
+    ap₂ (λ (p q : Bool). p && (q || g)) (c .before .before .in-range .ensures kind e) (ap (λ (b : Bounds). b .free) e ∙ free-is kind)
+    ∙ fine-is kind (c .before .before .before .args .x) g (c .before .is-multiple .ensures)
+
+pub is-fine-spec : {M : Type 1} → statement M
+is-fine-spec = tie.close (tie.spec in-range-requires is-multiple-requires returns)
