@@ -1,4 +1,2 @@
 pub mod OneLine
-pub mod ManyLines
 pub mod Determined
-pub mod Independent

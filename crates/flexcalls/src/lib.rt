@@ -1,19 +1,17 @@
-// The calls that flex, on any bits: checks 1 to 6, and then the parts of crates `rounds` and `flexlines` (document 01, "Flexible lengths").
-ghost use Prim.Native.Nat.{_≤_};
+// The call that flexes one line, on any bits: checks 1 to 6, and then the parts of crate `rounds` (document 01, "Flexible lengths").
+ghost use Prim.Native.Nat.{_*_, _≤_};
 ghost use lib.ListN.{length};
 ghost use Rattle.grid.specs.Grid.{Length, cleaned};
 ghost use Rattle.refusal.specs.Domain.{summed};
 ghost use Rattle.flexing.specs.Flex.{outerSum};
 ghost use Rattle.flexing.specs.Items.{lists, itemsOf};
-ghost use Rattle.rounds.specs.Cells.{itemsIn, Tabled};
+ghost use Rattle.rounds.specs.Cells.{itemsIn, Wide, Tabled};
 ghost use Rattle.flexcalls.specs.Call.{Answered, FlexedLine};
 ghost use Rattle.flexcalls.specs.Parts.{Checked};
 use refusal::Verdict;
 use rounds::flex::flex_items;
 use rounds::sum::outer_sum;
 use rounds::table::read_items;
-
-pub mod lines;
 
 // What flexing a line answers: its free space before flexing, and its rounds.
 pub enum FlexAnswer {
@@ -25,8 +23,8 @@ pub enum FlexAnswer {
 }
 
 // Check 6 of items that are read, and, where it passes, their line flexed.
-fn flex_read(table: &[f32; 8192], n: usize, inner: f32, gap: f32, targets: &mut [f32]) -> FlexAnswer
-    requires { ⌜ (n ≤ 1024) × (n ≤ length (now targets)) × Length inner × Length gap × Tabled (now table) n ⌝ }
+fn flex_read(table: &[f32], n: usize, inner: f32, gap: f32, targets: &mut [f32]) -> FlexAnswer
+    requires { ⌜ Wide (now table) n × (n ≤ length (now targets)) × Length inner × Length gap × Tabled (now table) n ⌝ }
     ensures { λ r. ⌜ Answered (summed (outerSum gap (itemsIn (now (table .entry)) 0 n))) inner gap (itemsIn (now (table .entry)) 0 n) r (now (targets .entry)) (now (targets .exit)) ⌝ }
 {
     let v = refusal::check_sum(outer_sum(table, n, gap));
@@ -43,7 +41,51 @@ fn flex_read(table: &[f32; 8192], n: usize, inner: f32, gap: f32, targets: &mut 
     }
 }
 
-// Reads a call that checks 1 to 5 have passed.
+// Reads a call that checks 1 to 5 have passed into a table that it is lent.
+fn flex_in<'a>(
+    inner: f32,
+    gap: f32,
+    base: &'a [f32],
+    minimum: &'a [f32],
+    maximum: &'a [f32],
+    has_maximum: &'a [u32],
+    edges: &'a [f32],
+    grow: &'a [f32],
+    shrink: &'a [f32],
+    start: &'a [f32],
+    end: &'a [f32],
+    auto_start: &'a [u32],
+    auto_end: &'a [u32],
+    table: &mut [f32],
+    targets: &mut [f32],
+) -> FlexAnswer
+    requires { ⌜ Checked inner gap (lists (now base) (now minimum) (now maximum) (now «has_maximum») (now edges) (now grow) (now shrink) (now start) (now end) (now «auto_start») (now «auto_end»)) (now targets) × (8 * length (now base) ≤ length (now table)) ⌝ }
+    ensures { λ r. ⌜ Answered (summed (outerSum (cleaned gap) (itemsOf (lists (now (base .entry)) (now (minimum .entry)) (now (maximum .entry)) (now («has_maximum» .entry)) (now (edges .entry)) (now (grow .entry)) (now (shrink .entry)) (now (start .entry)) (now (end .entry)) (now («auto_start» .entry)) (now («auto_end» .entry)))))) (cleaned inner) (cleaned gap) (itemsOf (lists (now (base .entry)) (now (minimum .entry)) (now (maximum .entry)) (now («has_maximum» .entry)) (now (edges .entry)) (now (grow .entry)) (now (shrink .entry)) (now (start .entry)) (now (end .entry)) (now («auto_start» .entry)) (now («auto_end» .entry)))) r (now (targets .entry)) (now (targets .exit)) ⌝ }
+{
+    read_items(
+        base,
+        minimum,
+        maximum,
+        has_maximum,
+        edges,
+        grow,
+        shrink,
+        start,
+        end,
+        auto_start,
+        auto_end,
+        table,
+    );
+    flex_read(
+        table,
+        base.len(),
+        grid::clean(inner),
+        grid::clean(gap),
+        targets,
+    )
+}
+
+// The table is of the frame, as small as serves: clearing it takes longer than flexing a short line.
 fn flex_checked<'a>(
     inner: f32,
     gap: f32,
@@ -63,8 +105,50 @@ fn flex_checked<'a>(
     requires { ⌜ Checked inner gap (lists (now base) (now minimum) (now maximum) (now «has_maximum») (now edges) (now grow) (now shrink) (now start) (now end) (now «auto_start») (now «auto_end»)) (now targets) ⌝ }
     ensures { λ r. ⌜ Answered (summed (outerSum (cleaned gap) (itemsOf (lists (now (base .entry)) (now (minimum .entry)) (now (maximum .entry)) (now («has_maximum» .entry)) (now (edges .entry)) (now (grow .entry)) (now (shrink .entry)) (now (start .entry)) (now (end .entry)) (now («auto_start» .entry)) (now («auto_end» .entry)))))) (cleaned inner) (cleaned gap) (itemsOf (lists (now (base .entry)) (now (minimum .entry)) (now (maximum .entry)) (now («has_maximum» .entry)) (now (edges .entry)) (now (grow .entry)) (now (shrink .entry)) (now (start .entry)) (now (end .entry)) (now («auto_start» .entry)) (now («auto_end» .entry)))) r (now (targets .entry)) (now (targets .exit)) ⌝ }
 {
-    let mut table = [0.0; 8192];
-    read_items(
+    if base.len() <= 16 {
+        let mut few = [0.0; 128];
+        return flex_in(
+            inner,
+            gap,
+            base,
+            minimum,
+            maximum,
+            has_maximum,
+            edges,
+            grow,
+            shrink,
+            start,
+            end,
+            auto_start,
+            auto_end,
+            &mut few,
+            targets,
+        );
+    }
+    if base.len() <= 128 {
+        let mut some = [0.0; 1024];
+        return flex_in(
+            inner,
+            gap,
+            base,
+            minimum,
+            maximum,
+            has_maximum,
+            edges,
+            grow,
+            shrink,
+            start,
+            end,
+            auto_start,
+            auto_end,
+            &mut some,
+            targets,
+        );
+    }
+    let mut many = [0.0; 8192];
+    flex_in(
+        inner,
+        gap,
         base,
         minimum,
         maximum,
@@ -76,13 +160,7 @@ fn flex_checked<'a>(
         end,
         auto_start,
         auto_end,
-        &mut table,
-    );
-    flex_read(
-        &table,
-        base.len(),
-        grid::clean(inner),
-        grid::clean(gap),
+        &mut many,
         targets,
     )
 }

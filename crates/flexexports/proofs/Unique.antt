@@ -10,7 +10,7 @@ use Rattle.flexing.specs.Items.{Lists}
 use Rattle.flexcalls.specs.declared.FlexAnswer.{FlexAnswer}
 use Rattle.flexcalls.specs.Call.{valuesOf}
 use Rattle.flexcalls.proofs.Determined.{line-determined}
-use Rattle.flexcalls.proofs.Independent.{lines-determined}
+use Rattle.flexmany.proofs.Independent.{lines-determined}
 use Rattle.crossing.specs.declared.CAnswer.{CAnswer}
 use Rattle.crossing.specs.Crossing.{cAnswer}
 use Rattle.flexexports.specs.declared.CFlexed.{CFlexed}

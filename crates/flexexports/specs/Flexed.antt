@@ -8,7 +8,7 @@ use Rattle.refusal.specs.declared.Answer.{Answer}
 use Rattle.flexing.specs.Items.{Lists}
 use Rattle.flexcalls.specs.declared.FlexAnswer.{FlexAnswer}
 use Rattle.flexcalls.specs.Call.{Values, valuesOf, FlexedLine}
-use Rattle.flexcalls.specs.Lines.{FlexedByLine}
+use Rattle.flexmany.specs.Lines.{FlexedByLine}
 use Rattle.crossing.specs.declared.CAnswer.{CAnswer}
 use Rattle.crossing.specs.Crossing.{whereCode, whereIndex, cAnswer}
 use Rattle.flexexports.specs.declared.CFlexed.{CFlexed}

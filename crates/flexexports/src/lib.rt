@@ -102,7 +102,7 @@ pub extern "C" fn fratolivem_flex_lines<'a>(
 ) -> CAnswer
     ensures { λ r. ⌜ FlexedLinesFromC inner gap (now (counts .entry)) (lists (now (base .entry)) (now (minimum .entry)) (now (maximum .entry)) (now («has_maximum» .entry)) (now (edges .entry)) (now (grow .entry)) (now (shrink .entry)) (now (start .entry)) (now (end .entry)) (now («auto_start» .entry)) (now («auto_end» .entry))) r (now (targets .entry)) (now (free .entry)) (now (rounds .entry)) (now (targets .exit)) (now (free .exit)) (now (rounds .exit)) ⌝ }
 {
-    crossing::to_c(flexcalls::lines::flex_lines(
+    crossing::to_c(flexmany::flex_lines(
         inner,
         gap,
         counts,

@@ -1,5 +1,6 @@
 pub mod Signs
 pub mod Falls
+pub mod Round
 pub mod Units
 pub mod Determined
 pub mod Examples

@@ -1,3 +1,4 @@
 pub mod Flex
 pub mod Items
 pub mod Accepted
+pub mod Steps

@@ -1,4 +1,6 @@
-// Flexible lengths, CSS-FLEX 9.7 (document 01, "Flexible lengths"): the definition, and what is worked out of one item.
+// Flexible lengths, CSS-FLEX 9.7 (document 01, "Flexible lengths"): the definition, and every operation on numbers by value: of one
+// item, and of a line.
+pub mod sharing;
 pub mod sizes;
 
 // An item as it is read: no number is -0.0, an auto margin is 0, and an absent maximum is infinite.
@@ -27,4 +29,12 @@ pub struct Share {
     pub growing: bool,
     pub free: f32,
     pub weights: f32,
+}
+
+// Of a line the outer sizes, and of its unfrozen items the factors, the weights and the number.
+pub struct Sums {
+    pub outer: f32,
+    pub factors: f32,
+    pub weights: f32,
+    pub left: usize,
 }

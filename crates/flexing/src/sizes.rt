@@ -1,8 +1,7 @@
-// Every operation on numbers by value: those of one item, and the gaps and the free space of a line.
+// One item by value: every operation on its numbers.
 ghost use mathlib.Core.Path.{_≡_};
-ghost use Prim.Native.Nat.{_≤_};
-ghost use Rattle.grid.specs.Floats.{raised, lowered, gaps};
-ghost use Rattle.flexing.specs.Flex.{magnitude, clamp, hypothetical, innerBase, outer, factor, weight, inflexible, flexed, violation, freezes, limited};
+ghost use Rattle.grid.specs.Floats.{raised, lowered};
+ghost use Rattle.flexing.specs.Flex.{clamp, hypothetical, innerBase, outer, factor, weight, inflexible, flexed, freezes};
 use crate::Item;
 use crate::Share;
 
@@ -16,12 +15,6 @@ fn lower(x: f32, y: f32) -> f32
     ensures { λ r. ⌜ r ≡ lowered x y ⌝ }
 {
     if y < x { y } else { x }
-}
-
-fn magnitude_of(x: f32) -> f32
-    ensures { λ r. ⌜ r ≡ magnitude x ⌝ }
-{
-    if x < 0.0 { -x } else { x }
 }
 
 pub fn clamped(it: Item, x: f32) -> f32
@@ -78,30 +71,6 @@ pub fn is_inflexible(it: Item, growing: bool) -> bool
     it.base < size
 }
 
-// No entry point: it asks for at most 1,024 items.
-pub fn gaps_of(gap: f32, n: usize) -> f32
-    requires { ⌜ n ≤ 1024 ⌝ }
-    ensures { λ r. ⌜ r ≡ gaps gap n ⌝ }
-{
-    if n == 0 {
-        return 0.0;
-    }
-    gap * ((n - 1) as f32)
-}
-
-// Step 4b: factors that sum below 1 share out only that part of the initial free space, where it is the smaller.
-pub fn limit(initial: f32, factors: f32, free: f32) -> f32
-    ensures { λ r. ⌜ r ≡ limited initial factors free ⌝ }
-{
-    if factors < 1.0 {
-        let part = initial * factors;
-        if magnitude_of(part) < magnitude_of(free) {
-            return part;
-        }
-    }
-    free
-}
-
 // Step 4c.
 pub fn flexed_size(it: Item, sh: Share) -> f32
     ensures { λ r. ⌜ r ≡ flexed sh it ⌝ }
@@ -113,14 +82,6 @@ pub fn flexed_size(it: Item, sh: Share) -> f32
         return it.base;
     }
     it.base + sh.free * (weight_of(it, sh.growing) / sh.weights)
-}
-
-// Step 4d.
-pub fn violation_of(it: Item, sh: Share) -> f32
-    ensures { λ r. ⌜ r ≡ violation sh it ⌝ }
-{
-    let size = flexed_size(it, sh);
-    clamped(it, size) - size
 }
 
 // Step 4e: whether an item is frozen, by the total of the violations and its own.

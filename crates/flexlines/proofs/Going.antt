@@ -17,7 +17,7 @@ use Rattle.flexing.specs.declared.Item.{Item}
 use Rattle.flexing.specs.Flex.{outerSum, Flexed, targets as targetsOf}
 use Rattle.grid.specs.Floats.{each}
 use Rattle.flexing.specs.Accepted.{Accepted}
-use Rattle.rounds.specs.Cells.{itemIn, itemsIn}
+use Rattle.rounds.specs.Cells.{itemIn, itemsIn, Wide}
 use Rattle.flexlines.specs.Lines.{lineStart, lineItems, part, Beyond, FlexedLines}
 use Rattle.flexlines.specs.Parts.{Divided, Lined, Ahead, Flowed, Cleared}
 use Rattle.rounds.proofs.Each.{length-each, each-ext, outer-snoc}
@@ -188,8 +188,8 @@ module _ (inner gap : Float) (item : ℕ → Item) (counts : List ℕ) (targets�
     going-all h = subst (λ (k : ℕ). Flowed inner gap item counts k sum targets₀ free₀ rounds₀ targets free rounds) (le-antisymm (g .inside) h) (g .flowed)
 
 -- what a turn may use: the line's range lies inside every list
-pub record Turn (start c line sum : ℕ) (targets : List Float) (free : List ℤ) (rounds : List ℕ) : Type 0 where
-  pub inside : start + c ≤ 1024
+pub record Turn (t : List Float) (start c line sum : ℕ) (targets : List Float) (free : List ℤ) (rounds : List ℕ) : Type 0 where
+  pub inside : Wide t (start + c)
   pub room : start + c ≤ length targets
   pub free-room : line < length free
   pub rounds-room : line < length rounds
@@ -201,15 +201,15 @@ module _ (inner gap : Float) (t : List Float) (n : ℕ) (counts : List ℕ) (tar
     pub line-inside : start + getD counts line 0 ≤ n
     line-inside = subst (λ (k : ℕ). k + getD counts line 0 ≤ n) (sym (g .here)) (line-ends inner gap t n counts targets₀ free₀ rounds₀ pre line h)
 
-    pub turn-of : Turn start (getD counts line 0) line sum targets free rounds
+    pub turn-of : Turn t start (getD counts line 0) line sum targets free rounds
     turn-of =
         let l = lines-within inner gap t n counts targets₀ free₀ rounds₀ pre in
         record {
-          inside = omega (arith, line-inside, pre .divided .few);
+          inside = (omega (arith, line-inside, pre .divided .wide .0), omega (arith, line-inside, pre .divided .wide .1));
           room = omega (arith, line-inside, pre .divided .room, g .flowed .long);
           free-room = omega (arith, l, pre .divided .free-room, g .flowed .free-past .long);
           rounds-room = omega (arith, l, pre .divided .rounds-room, g .flowed .rounds-past .long);
-          line-few = omega (arith, l, pre .divided .few);
+          line-few = omega (arith, l, pre .divided .wide .0);
           less = g .less;
         }
 

@@ -10,14 +10,14 @@ use Rattle.grid.specs.Grid.{Length}
 use Rattle.refusal.specs.Marks.{sumUpTo}
 use Rattle.flexing.specs.declared.Item.{Item}
 use Rattle.flexing.specs.Flex.{Flexed, outerSum}
-use Rattle.rounds.specs.Cells.{itemsIn, Tabled}
+use Rattle.rounds.specs.Cells.{itemsIn, Wide, Tabled}
 use Rattle.flexlines.specs.Lines.{lineStart, lineItems, part}
 
 -- what checks 1 to 5 show: the lines have the n items of the table, none of them is empty, and there is room
 pub record Divided (inner gap : Float) (t : List Float) (n : ℕ) (counts : List ℕ) (targets : List Float) (free : List ℤ) (rounds : List ℕ) : Type 0 where
-  pub few : n ≤ 1024
   pub inner-is : Length inner
   pub gap-is : Length gap
+  pub wide : Wide t n
   pub tabled : Tabled t n
   pub whole : lineStart counts (length counts) ≡ n
   pub positive : (j : ℕ) → j < length counts → 0 < getD counts j 0

@@ -44,7 +44,7 @@ fn store_free(free: &mut [i32], j: usize, x: i32)
 
 // Line after line, by the counts; answers the sum of the rounds.
 fn flex_each<'a>(
-    table: &'a [f32; 8192],
+    table: &'a [f32],
     n: usize,
     inner: f32,
     gap: f32,
@@ -98,7 +98,7 @@ fn clear_rounds(rounds: &mut [u32], from: usize, n: usize)
 
 // All lines, and 0 in the cells past the last. What it asks is what checks 1 to 6 show.
 pub fn flex_all<'a>(
-    table: &'a [f32; 8192],
+    table: &'a [f32],
     n: usize,
     inner: f32,
     gap: f32,

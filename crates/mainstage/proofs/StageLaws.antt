@@ -6,7 +6,7 @@ use mathlib.Core.List.{List, _++_}
 use Prim.Native.Nat.{ℕ, _*_, _+_, _≤_}
 use native.Mathlib.Nat.{le-trans, le-of-eq}
 use native.Mathlib.Omega.{arith}
-use lib.ListN.{length, drop, take, length-replicate, drop-of-length-le}
+use lib.ListN.{length, drop, take, length-append, length-replicate, drop-of-length-le}
 use lib.Seq.{take-at}
 use lib.IntN.{ℤ}
 use lib.Ieee.{Float}
@@ -43,7 +43,7 @@ module _ {c : Container} {n : ℕ} {t x : List Float} {codes counts : List ℕ} 
   flex-asked i g targets p q h =
       let d = ready .lined .divided in
       subst (λ (y : Float). Lined y g t n counts targets free rounds) (sym p) (subst (λ (y : Float). Lined (cleaned (c .«inner_main»)) y t n counts targets free rounds) (sym q) (record {
-        divided = record { few = d .few; inner-is = d .inner-is; gap-is = d .gap-is; tabled = d .tabled; whole = d .whole; positive = d .positive; room = le-of-eq (sym h); free-room = d .free-room; rounds-room = d .rounds-room };
+        divided = record { wide = d .wide; inner-is = d .inner-is; gap-is = d .gap-is; tabled = d .tabled; whole = d .whole; positive = d .positive; room = le-of-eq (sym h); free-room = d .free-room; rounds-room = d .rounds-room };
         within = ready .lined .within;
       }))
 
@@ -119,6 +119,9 @@ first-cells n p q h = take-at p q n h
 
 pub first-long : (n : ℕ) (p q : List Float) → length p ≡ n → length (take n (p ++ q)) ≡ n
 first-long n p q h = ap length (take-at p q n h) ∙ h
+
+pub first-inside : (n : ℕ) (p q : List Float) → length p ≡ n → n ≤ length (p ++ q)
+first-inside n p q h = omega (arith, length-append p q)
 
 pub four-inside : (n : ℕ) (placed : List Float) → n ≤ 1024 → 4 * n ≤ length placed → Inside n 3 placed
 four-inside n placed h k = record { few = h; one-of = omega arith; inside = omega arith }

@@ -26,7 +26,7 @@ fn is_reversed(direction: u32) -> bool
 fn run_main<'a>(
     c: Container,
     n: usize,
-    table: &'a [f32; 8192],
+    table: &'a [f32],
     numbers: &'a [f32],
     codes: &'a [u32],
     counts: &'a [u32],
@@ -66,7 +66,7 @@ fn run_main<'a>(
 fn place_by_way<'a>(
     c: Container,
     n: usize,
-    table: &'a [f32; 8192],
+    table: &'a [f32],
     numbers: &'a [f32],
     codes: &'a [u32],
     counts: &'a [u32],
@@ -112,7 +112,7 @@ fn place_by_way<'a>(
 pub fn place_main_axis<'a>(
     c: Container,
     n: usize,
-    table: &'a [f32; 8192],
+    table: &'a [f32],
     numbers: &'a [f32],
     codes: &'a [u32],
     counts: &'a [u32],

@@ -24,7 +24,7 @@ use Rattle.refusal.proofs.Checks.{judged-checked, accepted, then-passed, shape-
 use Rattle.breaking.specs.Steps.{LengthLimit}
 use Rattle.flexing.specs.Flex.{outerSum}
 use Rattle.flexing.specs.Items.{itemsOf}
-use Rattle.rounds.specs.Cells.{itemsIn, Tabled, Held}
+use Rattle.rounds.specs.Cells.{Wide, itemsIn, Tabled, Held}
 use Rattle.rounds.proofs.Columns.{tabled-of, items-are}
 use Rattle.flexchecks.specs.Input.{inputOf}
 use Rattle.flexchecks.proofs.Accept.{inner-length, gap-length, measured-of, refused-then, passed-then}
@@ -105,6 +105,11 @@ module _ (c : Container) (n : ℕ) (x : List Float) (codes : List ℕ) (room : B
       let few = shape-passed n room (p .0) .0 in
       (p .0, accepted (passInput c n x codes) Passed (sym (judged-checked (passInput c n x codes) few Passed) ∙ ap (λ (v : Verdict). then v Passed) (p .1)) .0)
 
+-- ---- the table of the frame
+
+pub wide-of : (t : List Float) (n : ℕ) → length t ≡ 8192 → n ≤ 1024 → Wide t n
+wide-of t n h few = (few, omega (arith, h))
+
 -- ---- all of it
 
 module _ {c : Container} {n : ℕ} {x : List Float} {codes : List ℕ} {b : Lent} (k : Checked c n x codes b) where
@@ -134,7 +139,7 @@ module _ {c : Container} {n : ℕ} {x : List Float} {codes : List ℕ} {b : Lent
   pub gap-is : Length (cleaned (c .«gap_main»))
   gap-is = gap-length (c .«inner_main») (c .«gap_main») (mainLists n x codes) sound-main
 
-  module _ (t : List Float) (held : Held (mainLists n x codes) t) where
+  module _ (t : List Float) (wide : Wide t n) (held : Held (mainLists n x codes) t) where
     pub table-is : Tabled t n
     table-is = subst (Tabled t) count-is (tabled-of (mainLists n x codes) t held (measured-of (c .«inner_main») (c .«gap_main») (mainLists n x codes) sound-main))
 
@@ -149,7 +154,7 @@ module _ {c : Container} {n : ℕ} {x : List Float} {codes : List ℕ} {b : Lent
             inner-is = inner-length (c .«inner_main») (c .«gap_main») (mainLists n x codes) sound-main;
             gap-is = gap-is;
             breaks = record {
-              few = given .few;
+              wide = wide;
               breakable = table-breakable t n (cleaned (c .«gap_main»)) table-is w (limitOf c) (given .few) (limit-length (c .«limit_kind») (c .limit) (limit-and-cross .0)) gap-is (g .1 .0, clean-size (c .«gap_main») (g .0) ∙ g .1 .1);
               room = room-of (c .wrap) n (wrapping.lent (b .counts) (b .work) (b .sums)) (wrap-code (crossNumbersOf c) (limit-and-cross .1)) (given .counts-room) (given .work-room);
             };

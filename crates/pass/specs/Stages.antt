@@ -11,7 +11,7 @@ use Rattle.refusal.specs.Marks.{Sound}
 use Rattle.refusal.specs.declared.Verdict.the-variants.{Passed}
 use Rattle.breaking.specs.Steps.{Breakable}
 use Rattle.flexing.specs.Flex.{outerSum}
-use Rattle.rounds.specs.Cells.{itemsIn, Tabled, Held}
+use Rattle.rounds.specs.Cells.{Wide, itemsIn, Tabled, Held}
 use Rattle.wrapping.specs.Wrapping as wrapping
 use Rattle.wrapping.specs.Outer.{outerSizes}
 use Rattle.container.specs.declared.Container.{Container}
@@ -27,7 +27,7 @@ use Rattle.pass.specs.Pass.{Lent, modeOf}
 
 -- the items of a table, which the checks accepted, and room for their lines
 pub record Breaks (c : Container) (n : ℕ) (t : List Float) (before : wrapping.Lent) : Type 0 where
-  pub few : n ≤ 1024
+  pub wide : Wide t n
   pub breakable : Breakable (limitOf c) (cleaned (c .«gap_main»)) (outerSizes (itemsIn t 0 n))
   pub room : wrapping.Room (modeOf (c .wrap)) n before
 

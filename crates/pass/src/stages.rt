@@ -1,8 +1,8 @@
 // The stages of an accepted pass, each on what the one before it answers. No entry points: they ask what the checks have shown.
 ghost use mathlib.Core.Path.{_≡_};
-ghost use lib.ListN.{length};
+ghost use Prim.Native.Nat.{_*_};
 ghost use Rattle.wrapping.specs.Wrapping as wrapping;
-ghost use Rattle.rounds.specs.Cells.{Held};
+ghost use Rattle.rounds.specs.Cells.{Wide, Held, Kept};
 ghost use Rattle.container.specs.Columns.{mainLists};
 ghost use Rattle.container.specs.Stages.{Listed};
 ghost use Rattle.pass.specs.Pass.{lent, modeOf, Answered};
@@ -36,7 +36,7 @@ fn mode_of(wrap: u32) -> Mode
 pub fn break_items(
     c: Container,
     n: usize,
-    table: &[f32; 8192],
+    table: &[f32],
     counts: &mut [u32],
     work: &mut [u32],
     sums: &mut [f64],
@@ -77,9 +77,10 @@ pub fn lay_cross<'a>(
 }
 
 // The items' numbers on the main axis, as flexing reads them.
-pub fn read_main<'a>(n: usize, numbers: &'a [f32], codes: &'a [u32], table: &mut [f32; 8192])
-    requires { ⌜ Listed n (now numbers) (now codes) × (length (now table) ≡ 8192) ⌝ }
+pub fn read_main<'a>(n: usize, numbers: &'a [f32], codes: &'a [u32], table: &mut [f32])
+    requires { ⌜ Listed n (now numbers) (now codes) × Wide (now table) n ⌝ }
     ensures { λ _. ⌜ Held (mainLists n (now (numbers .entry)) (now (codes .entry))) (now (table .exit)) ⌝ }
+    ensures { λ _. ⌜ Kept (8 * n) (now (table .entry)) (now (table .exit)) ⌝ }
 {
     rounds::table::read_items(
         column(numbers, n, 0),
@@ -107,7 +108,7 @@ pub struct Lines {
 fn lay_main<'a>(
     c: Container,
     n: usize,
-    table: &'a [f32; 8192],
+    table: &'a [f32],
     numbers: &'a [f32],
     codes: &'a [u32],
     placed: &mut [f32],
@@ -142,7 +143,7 @@ fn lay_main<'a>(
 pub fn lay_out<'a>(
     c: Container,
     n: usize,
-    table: &'a [f32; 8192],
+    table: &'a [f32],
     numbers: &'a [f32],
     codes: &'a [u32],
     placed: &mut [f32],

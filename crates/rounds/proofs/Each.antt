@@ -127,12 +127,6 @@ left-turn f g n s r b p q = ap (λ (x : Float). s ⊕ x) q ∙ ap (λ (t : Bool)
 pub left-pass : (f : Cell → Float) (g : ℕ → Cell) (n : ℕ) (s : Float) → g n .frozen ≡ true → s ≡ total f (left (each n g)) → s ≡ total f (left (each (n + 1) g))
 left-pass f g n s b p = ap (λ (t : Bool). cond t s (s ⊕ f (g n))) (sym b) ∙ left-sum f g n s p
 
-pub count-turn : (g : ℕ → Cell) (n k : ℕ) → g n .frozen ≡ false → k ≡ unfrozen (each n g) → k + 1 ≡ unfrozen (each (n + 1) g)
-count-turn g n k b p = ap (λ (t : Bool). cond t k (k + 1)) (sym b) ∙ unfrozen-next g n k p
-
-pub count-pass : (g : ℕ → Cell) (n k : ℕ) → g n .frozen ≡ true → k ≡ unfrozen (each n g) → k ≡ unfrozen (each (n + 1) g)
-count-pass g n k b p = ap (λ (t : Bool). cond t k (k + 1)) (sym b) ∙ unfrozen-next g n k p
-
 -- ---- a loop that rewrites the marks and the targets: the first i cells are as wanted, the others as they were
 
 abbrev pub put : Item → Bool → Float → Cell
@@ -164,6 +158,21 @@ module _ (n : ℕ) (want : ℕ → Cell) (item : ℕ → Item) (frozen₀ : List
       flags = λ k l. t .flags k (omega arith);
       rest = λ k l. t .rest k (omega arith);
     }
+
+    -- a cell of which the target is written
+    pub turned-size : n ≤ length targets₀ → (x : Float) → put (item i) (getD frozen₀ i false) x ≡ want i → Turned n want item frozen₀ targets₀ frozen (set targets i x) (i + 1)
+    turned-size nx x e =
+        let lx : i < length targets = omega (arith, t .long) in
+        record {
+          inside = omega arith;
+          marks = t .marks;
+          long = length-set targets i x ∙ t .long;
+          done = below-more (λ (k : ℕ). cell item frozen (set targets i x) k ≡ want k) i
+              (λ k l. ap (λ (y : Float). put (item k) (getD frozen k false) y) (getD-set-other targets i k x nan (ne-of-lt l)) ∙ t .done k l)
+              (ap₂ (λ (c : Bool) (y : Float). put (item i) c y) (t .flags i (le-refl i)) (getD-set-same targets i x nan lx) ∙ e);
+          flags = λ k l. t .flags k (omega arith);
+          rest = λ k l. getD-set-other targets i k x nan (ne-of-gt (lt-of-lt-of-le (lt-add-one i) l)) ∙ t .rest k (le-of-lt (lt-of-lt-of-le (lt-add-one i) l));
+        }
 
     -- a cell that is written
     pub turned-next : n ≤ length frozen₀ → n ≤ length targets₀ → (b : Bool) (x : Float) → put (item i) b x ≡ want i → Turned n want item frozen₀ targets₀ (set frozen i b) (set targets i x) (i + 1)

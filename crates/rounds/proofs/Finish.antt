@@ -9,14 +9,15 @@ use lib.ListN.{length, getD, take, drop, length-drop, length-map, take-append-dr
 use lib.Seq.{take-suc, getD-drop, ext-getD}
 use lib.IntN.{ℤ}
 use lib.Ieee.{Float, nan}
+use Rattle.grid.specs.Floats.{each}
 use Rattle.flexing.specs.declared.Line.{Line}
-use Rattle.rounds.specs.declared.Sums.{Sums}
-use Rattle.grid.specs.Floats.{gaps, _⊕_, _⊖_, each}
+use Rattle.flexing.specs.declared.Sums.{Sums}
 use Rattle.flexing.specs.Flex.{Cell, first, remaining, after, Runs, freeBefore, grows, begun, lineOf, Flexed}
+use Rattle.flexing.specs.Steps.{Summed, spaceLeft}
 use Rattle.grid.specs.Grid.{cleaned}
-use Rattle.rounds.specs.Cells.{itemIn, itemsIn, cellAt, cellsOf, Kept, Rewritten, Ran, Summed}
+use Rattle.rounds.specs.Cells.{itemIn, itemsIn, cellAt, cellsOf, Kept, Rewritten, Ran}
 use Rattle.rounds.proofs.Each.{length-each, map-each}
-use Rattle.rounds.proofs.Round.{remaining-is}
+use Rattle.flexing.proofs.Round.{remaining-is}
 use Rattle.flexing.proofs.Falls.{rounds-few}
 
 -- ---- a list by its first n elements and the rest
@@ -40,18 +41,18 @@ parts n old new g h e p q = sym (take-append-drop n new) ∙ ap₂ (λ (a b : Li
 abbrev pub lineFrom : Float → Float → Float → Bool → Line
 lineFrom inner gap initial growing = record { inner = inner; gap = gap; initial = initial; growing = growing }
 
-module _ (t : List Float) (from n : ℕ) (inner gap : Float) (free : ℤ) (growing : Bool) (frozen₀ : List Bool) (targets₀ : List Float) (frozen₁ : List Bool) (targets₁ : List Float) (s : Sums) (gs : Float) (rounds : ℕ) (frozen₂ : List Bool) (targets₂ targets₃ : List Float)
-    (ef : free ≡ freeBefore inner gap (itemsIn t from n)) (eg : growing ≡ grows inner gap (itemsIn t from n)) (w : Rewritten t from n (map (first growing) (itemsIn t from n)) frozen₀ targets₀ frozen₁ targets₁)
-    (u : Summed growing (cellsOf t from n frozen₁ targets₁) s) (q : gs ≡ gaps gap n) (r : Ran t from n (lineFrom inner gap (inner ⊖ (gs ⊕ s .outer)) growing) rounds frozen₁ targets₁ frozen₂ targets₂)
+module _ (t : List Float) (from n : ℕ) (inner gap : Float) (free : ℤ) (growing : Bool) (targets₀ : List Float) (frozen₁ : List Bool) (targets₁ : List Float) (s : Sums) (initial : Float) (rounds : ℕ) (frozen₂ : List Bool) (targets₂ targets₃ : List Float)
+    (ef : free ≡ freeBefore inner gap (itemsIn t from n)) (eg : growing ≡ grows inner gap (itemsIn t from n)) (w : Rewritten t from n (map (first growing) (itemsIn t from n)) targets₀ frozen₁ targets₁)
+    (u : Summed growing (cellsOf t from n frozen₁ targets₁) s) (q : initial ≡ spaceLeft inner gap n (s .outer)) (r : Ran t from n (lineFrom inner gap initial growing) rounds frozen₁ targets₁ frozen₂ targets₂)
     (tidied : (k : ℕ) → k < n → getD targets₃ k nan ≡ cleaned (getD targets₂ k nan)) (kept : Kept n targets₂ targets₃) (room : n ≤ length targets₀) (long : length targets₃ ≡ length targets₀) where
   started : cellsOf t from n frozen₁ targets₁ ≡ begun inner gap (itemsIn t from n)
   started = w .cells-are ∙ ap (λ (g : Bool). map (first g) (itemsIn t from n)) eg
 
-  flows : lineFrom inner gap (inner ⊖ (gs ⊕ s .outer)) growing ≡ lineOf inner gap (itemsIn t from n)
-  flows = ap₂ (λ (i : Float) (g : Bool). lineFrom inner gap i g) (remaining-is inner gap (cellsOf t from n frozen₁ targets₁) n gs (s .outer) (sym (length-each n (cellAt t from frozen₁ targets₁))) (u .outer) q ∙ ap (λ (l : List Cell). remaining inner gap l) started) eg
+  flows : lineFrom inner gap initial growing ≡ lineOf inner gap (itemsIn t from n)
+  flows = ap₂ (λ (i : Float) (g : Bool). lineFrom inner gap i g) (q ∙ remaining-is inner gap (cellsOf t from n frozen₁ targets₁) n (s .outer) (sym (length-each n (cellAt t from frozen₁ targets₁))) (u .outer) ∙ ap (λ (l : List Cell). remaining inner gap l) started) eg
 
   runs : Runs (lineOf inner gap (itemsIn t from n)) (begun inner gap (itemsIn t from n)) rounds
-  runs = subst (λ (ln : Line). Runs ln (begun inner gap (itemsIn t from n)) rounds) flows (subst (λ (l : List Cell). Runs (lineFrom inner gap (inner ⊖ (gs ⊕ s .outer)) growing) l rounds) started (r .number))
+  runs = subst (λ (ln : Line). Runs ln (begun inner gap (itemsIn t from n)) rounds) flows (subst (λ (l : List Cell). Runs (lineFrom inner gap initial growing) l rounds) started (r .number))
 
   ended : cellsOf t from n frozen₂ targets₂ ≡ after (lineOf inner gap (itemsIn t from n)) rounds (begun inner gap (itemsIn t from n))
   ended = r .written .cells-are ∙ ap₂ (λ (ln : Line) (l : List Cell). after ln rounds l) flows started

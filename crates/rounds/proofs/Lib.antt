@@ -1,5 +1,4 @@
 pub mod Each
-pub mod Round
 pub mod Loop
 pub mod Finish
 pub mod Columns

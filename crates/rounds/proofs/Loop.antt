@@ -27,15 +27,15 @@ module _ (t : List Float) (from n : ℕ) (ln : Line) (frozen₀ : List Bool) (ta
   running-none = record { marks = refl; long = refl; cells-are = refl; needed = below-none (λ (k : ℕ). 0 < unfrozen (after ln k (cellsOf t from n frozen₀ targets₀))); kept = λ k h. refl }
 
   module _ (frozen : List Bool) (targets : List Float) (rounds : ℕ) (r : Running t from n ln frozen₀ targets₀ frozen targets rounds) where
-    pub running-next : (frozen' : List Bool) (targets' : List Float) → 0 < unfrozen (cellsOf t from n frozen targets) → length targets' ≡ length targets
-        → Rewritten t from n (round ln (cellsOf t from n frozen targets)) frozen targets frozen' targets' → Running t from n ln frozen₀ targets₀ frozen' targets' (rounds + 1)
+    pub running-next : (frozen' : List Bool) (targets' : List Float) → 0 < unfrozen (cellsOf t from n frozen targets) → length frozen' ≡ length frozen → length targets' ≡ length targets
+        → Rewritten t from n (round ln (cellsOf t from n frozen targets)) targets frozen' targets' → Running t from n ln frozen₀ targets₀ frozen' targets' (rounds + 1)
     unfolding after
-    running-next frozen' targets' h e w = record {
-      marks = w .marks-long ∙ r .marks;
+    running-next frozen' targets' h m e w = record {
+      marks = m ∙ r .marks;
       long = e ∙ r .long;
       cells-are = w .cells-are ∙ ap (round ln) (r .cells-are) ∙ ap (λ (k : ℕ). after ln k (cellsOf t from n frozen₀ targets₀)) (sym (add-one rounds));
       needed = below-more (λ (k : ℕ). 0 < unfrozen (after ln k (cellsOf t from n frozen₀ targets₀))) rounds (r .needed) (subst (λ (l : List Cell). 0 < unfrozen l) (r .cells-are) h);
-      kept = λ k m. w .kept k m ∙ r .kept k m;
+      kept = λ k l. w .kept k l ∙ r .kept k l;
     }
 
     -- with the items left, the rounds are at most the items
@@ -47,9 +47,9 @@ module _ (t : List Float) (from n : ℕ) (ln : Line) (frozen₀ : List Bool) (ta
     pub running-done : 0 ≡ unfrozen (cellsOf t from n frozen targets) → Ran t from n ln rounds frozen₀ targets₀ frozen targets
     running-done h = record {
       number = record { needed = r .needed; over = ap unfrozen (sym (r .cells-are)) ∙ sym h };
-      written = record { cells-are = r .cells-are; marks-long = r .marks; kept = r .kept };
+      written = record { cells-are = r .cells-are; kept = r .kept };
     }
 
 pub running-less : (t : List Float) (from n : ℕ) (ln : Line) (frozen : List Bool) (targets : List Float) (frozen' : List Bool) (targets' : List Float) → 0 < unfrozen (cellsOf t from n frozen targets)
-    → Rewritten t from n (round ln (cellsOf t from n frozen targets)) frozen targets frozen' targets' → unfrozen (cellsOf t from n frozen' targets') < unfrozen (cellsOf t from n frozen targets)
+    → Rewritten t from n (round ln (cellsOf t from n frozen targets)) targets frozen' targets' → unfrozen (cellsOf t from n frozen' targets') < unfrozen (cellsOf t from n frozen targets)
 running-less t from n ln frozen targets frozen' targets' h w = subst (λ (l : List Cell). unfrozen l < unfrozen (cellsOf t from n frozen targets)) (sym (w .cells-are)) (falls ln (cellsOf t from n frozen targets) h)

@@ -4,10 +4,3 @@ pub mod flex;
 mod rounds;
 pub mod sum;
 pub mod table;
-
-// Of a line the outer sizes, and of its unfrozen items the factors and the weights.
-pub struct Sums {
-    pub outer: f32,
-    pub factors: f32,
-    pub weights: f32,
-}

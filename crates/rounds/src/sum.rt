@@ -1,10 +1,9 @@
 // Check 6: the sum over items of the magnitude of the hypothetical outer size, and a gap, in sixty-fourths.
 ghost use mathlib.Core.Path.{_≡_};
-ghost use Prim.Native.Nat.{_≤_};
 ghost use Rattle.grid.specs.Grid.{Length};
 ghost use Rattle.flexing.specs.Flex.{outerUnits, outerSum};
 ghost use Rattle.flexing.specs.Accepted.{Measured};
-ghost use Rattle.rounds.specs.Cells.{itemsIn, Tabled};
+ghost use Rattle.rounds.specs.Cells.{Wide, itemsIn, Tabled};
 use crate::table::pick;
 use flexing::Item;
 use flexing::sizes::hypothetical_size;
@@ -21,8 +20,8 @@ fn outer_units(it: Item) -> grid::Sixtyfourths
 }
 
 // The sum of the items of a table. No entry point: it asks for measured items.
-pub fn outer_sum(table: &[f32; 8192], n: usize, gap: f32) -> u64
-    requires { ⌜ (n ≤ 1024) × Length gap × Tabled (now table) n ⌝ }
+pub fn outer_sum(table: &[f32], n: usize, gap: f32) -> u64
+    requires { ⌜ Wide (now table) n × Length gap × Tabled (now table) n ⌝ }
     ensures { λ r. ⌜ r ≡ outerSum gap (itemsIn (now (table .entry)) 0 n) ⌝ }
 {
     let g = grid::to_sixtyfourths(gap);

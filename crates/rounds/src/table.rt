@@ -1,41 +1,42 @@
-// The items of a call in one table of numbers: a column of 1,024 cells for each number of an item, so that every step of flexing takes one list.
+// The items of a call in one table of numbers, eight cells for each item and one item after another, so that every step of flexing takes one list.
 ghost use mathlib.Core.Path.{_≡_};
-ghost use Prim.Native.Nat.{_+_, _≤_, _<_};
+ghost use Prim.Native.Nat.{_+_, _*_, _<_};
 ghost use mathlib.Core.Bool.{cond, false};
 ghost use lib.Ieee.{inf};
 ghost use lib.ListN.{length};
 ghost use Rattle.grid.specs.Grid.{cleaned};
 ghost use Rattle.flexing.specs.Items.{lists, read, readWhere};
 ghost use Rattle.flexing.specs.Accepted.{Even};
-ghost use Rattle.rounds.specs.Cells.{itemIn, Stored, Held};
+ghost use Rattle.rounds.specs.Cells.{itemIn, Wide, Stored, Held, Kept};
 use flexing::Item;
 
 // Item i. No entry point: it asks for a place in the table.
-pub fn pick(table: &[f32; 8192], i: usize) -> Item
-    requires { ⌜ i < 1024 ⌝ }
+pub fn pick(table: &[f32], i: usize) -> Item
+    requires { ⌜ Wide (now table) (i + 1) ⌝ }
     ensures { λ r. ⌜ r ≡ itemIn (now (table .entry)) i ⌝ }
 {
+    let at = 8 * i;
     Item {
-        base: table[i],
-        minimum: table[1024 + i],
-        maximum: table[2048 + i],
-        edges: table[3072 + i],
-        grow: table[4096 + i],
-        shrink: table[5120 + i],
-        start: table[6144 + i],
-        end: table[7168 + i],
+        base: table[at],
+        minimum: table[at + 1],
+        maximum: table[at + 2],
+        edges: table[at + 3],
+        grow: table[at + 4],
+        shrink: table[at + 5],
+        start: table[at + 6],
+        end: table[at + 7],
     }
 }
 
-// A list of the items' numbers, as the column that starts there. -0.0 is read as 0.0.
-pub fn store(xs: &[f32], column: usize, table: &mut [f32; 8192])
-    requires { ⌜ (length (now xs) ≤ 1024) × (column ≤ 7168) × (length (now table) ≡ 8192) ⌝ }
+// A list of the items' numbers, each as its item's cell of that place. -0.0 is read as 0.0.
+pub fn store(xs: &[f32], column: usize, table: &mut [f32])
+    requires { ⌜ Wide (now table) (length (now xs)) × (column < 8) ⌝ }
     ensures { λ _. ⌜ Stored column (length (now (xs .entry))) (read (now (xs .entry))) (now (table .entry)) (now (table .exit)) ⌝ }
 {
     let mut i = 0;
     while i < xs.len() {
         let x = grid::clean(xs[i]);
-        table[column + i] = x;
+        table[8 * i + column] = x;
         i += 1;
     }
 }
@@ -53,16 +54,16 @@ pub fn store_where<'a>(
     taken: u32,
     other: f32,
     column: usize,
-    table: &mut [f32; 8192],
+    table: &mut [f32],
 )
-    requires { ⌜ (length (now xs) ≤ 1024) × (column ≤ 7168) × (length (now table) ≡ 8192) × (length (now codes) ≡ length (now xs)) ⌝ }
+    requires { ⌜ Wide (now table) (length (now xs)) × (column < 8) × (length (now codes) ≡ length (now xs)) ⌝ }
     ensures { λ _. ⌜ Stored column (length (now (xs .entry))) (readWhere (now (xs .entry)) (now (codes .entry)) taken other) (now (table .entry)) (now (table .exit)) ⌝ }
 {
     let mut i = 0;
     while i < xs.len() {
         let c = codes[i];
         let x = read_or(xs[i], c == taken, other);
-        table[column + i] = x;
+        table[8 * i + column] = x;
         i += 1;
     }
 }
@@ -86,17 +87,18 @@ pub fn read_items<'a>(
     end: &'a [f32],
     auto_start: &'a [u32],
     auto_end: &'a [u32],
-    table: &mut [f32; 8192],
+    table: &mut [f32],
 )
-    requires { ⌜ Even (lists (now base) (now minimum) (now maximum) (now «has_maximum») (now edges) (now grow) (now shrink) (now start) (now end) (now «auto_start») (now «auto_end»)) × (length (now table) ≡ 8192) ⌝ }
+    requires { ⌜ Even (lists (now base) (now minimum) (now maximum) (now «has_maximum») (now edges) (now grow) (now shrink) (now start) (now end) (now «auto_start») (now «auto_end»)) × Wide (now table) (length (now base)) ⌝ }
     ensures { λ _. ⌜ Held (lists (now (base .entry)) (now (minimum .entry)) (now (maximum .entry)) (now («has_maximum» .entry)) (now (edges .entry)) (now (grow .entry)) (now (shrink .entry)) (now (start .entry)) (now (end .entry)) (now («auto_start» .entry)) (now («auto_end» .entry))) (now (table .exit)) ⌝ }
+    ensures { λ _. ⌜ Kept (8 * length (now (base .entry))) (now (table .entry)) (now (table .exit)) ⌝ }
 {
     store(base, 0, table);
-    store(minimum, 1024, table);
-    store_where(maximum, has_maximum, 1, infinity(), 2048, table);
-    store(edges, 3072, table);
-    store(grow, 4096, table);
-    store(shrink, 5120, table);
-    store_where(start, auto_start, 0, 0.0, 6144, table);
-    store_where(end, auto_end, 0, 0.0, 7168, table);
+    store(minimum, 1, table);
+    store_where(maximum, has_maximum, 1, infinity(), 2, table);
+    store(edges, 3, table);
+    store(grow, 4, table);
+    store(shrink, 5, table);
+    store_where(start, auto_start, 0, 0.0, 6, table);
+    store_where(end, auto_end, 0, 0.0, 7, table);
 }

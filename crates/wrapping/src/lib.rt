@@ -6,7 +6,7 @@ ghost use Prim.Native.Nat.{_≤_};
 ghost use lib.ListN.{length, drop};
 ghost use lib.Ieee.{binary64, ofBits};
 ghost use Rattle.breaking.specs.Steps.{Breakable, Listed, filled};
-ghost use Rattle.rounds.specs.Cells.{itemsIn};
+ghost use Rattle.rounds.specs.Cells.{Wide, itemsIn};
 ghost use Rattle.wrapping.specs.Wrapping.{oneLine, lent, Room, Wrapped};
 ghost use Rattle.wrapping.specs.Outer.{outerSizes};
 ghost use Rattle.wrapping.specs.declared.Mode.the-variants.{Balanced};
@@ -26,8 +26,8 @@ pub enum Mode {
 }
 
 // The sizes that breaking takes: the hypothetical outer main sizes of the table's first n items. No entry point.
-pub fn outer_sizes(table: &[f32; 8192], n: usize, sizes: &mut [f32])
-    requires { ⌜ (n ≤ 1024) × (n ≤ length (now sizes)) ⌝ }
+pub fn outer_sizes(table: &[f32], n: usize, sizes: &mut [f32])
+    requires { ⌜ Wide (now table) n × (n ≤ length (now sizes)) ⌝ }
     ensures { λ _. ⌜ now (sizes .exit) ≡ outerSizes (itemsIn (now (table .entry)) 0 n) ++ drop n (now (sizes .entry)) ⌝ }
 {
     let mut i = 0;

@@ -1,61 +1,61 @@
--- A call that checks 1 to 5 have passed is read, and flexed. Assumes nothing.
-use mathlib.Core.Path.{sym, subst}
-use lib.Ieee.{Float}
-use denote.Ref.{now}
-use Rattle.grid.specs.Grid.{Length}
-use Rattle.flexing.specs.Items.{Lists, lists}
-use Rattle.flexchecks.proofs.Accept.{inner-length, gap-length, measured-of}
-use Rattle.flexcalls.proofs.OneLine.{answered-as}
-use Rattle.rounds.proofs.Columns.{tabled-of, items-are}
+-- The table is of the frame: of the length that the branch says, which is enough. Assumes nothing.
+use native.Mathlib.Omega.{arith}
 use borrow.Author.Needs.{needs}
 use Rattle.flexcalls.proofs.flex_checked.Statement.{statement}
 use Rattle.flexcalls.proofs.flex_checked.Tie as tie
 use Rattle.flexcalls.proofs.flex_checked.Reads as reads
 use Rattle.flexcalls.proofs.flex_checked.Lts as lts
-use Rattle.flexcalls.proofs.flex_read.Reads as flex-read-reads
-use Rattle.rounds.proofs.table.read_items.Reads as read-items-reads
-use Rattle.grid.proofs.clean.Reads as clean-reads
+use Rattle.flexcalls.proofs.flex_in.Reads as flex-in-reads
 
--- the lists that the function is called with
-abbrev given : tie.Start → Lists
-given s = lists (now (s .args .base)) (now (s .args .minimum)) (now (s .args .maximum)) (now (s .args .has-maximum)) (now (s .args .edges)) (now (s .args .grow)) (now (s .args .shrink)) (now (s .args .start)) (now (s .args .end)) (now (s .args .auto-start)) (now (s .args .auto-end))
+slice-aggregate-flex-in : tie.Need-slice-aggregate-flex-in
+slice-aggregate-flex-in c = search needs
 
-read-items-requires : tie.Need-read-items-requires
-read-items-requires c κs = search needs
-
-clean-requires : tie.Need-clean-requires
-clean-requires c κs = search needs
-
-clean-requires-2 : tie.Need-clean-requires-2
-clean-requires-2 c κs = search needs
-
-flex-read-requires : tie.Need-flex-read-requires
-flex-read-requires c κs =
-    let h = c .before in
-    let s = c .before .before .before .before .before .before .before .before .before .before .before .before .before .before .before .before .before .before in
-    let p = s .pre in (
-      p .even .few,
-      p .room,
-      subst (λ (x : Float). Length x) (sym (h .before .clean .ensures)) (inner-length (s .args .inner) (s .args .gap) (given s) (p .sound)),
-      subst (λ (x : Float). Length x) (sym (h .clean2 .ensures)) (gap-length (s .args .inner) (s .args .gap) (given s) (p .sound)),
-      tabled-of (given s) (c .before .before .before .before .read-items .last .1 .1 .1 .1 .1 .1 .1 .1 .1 .1 .1 .0) (c .before .before .before .before .read-items .ensures) (measured-of (s .args .inner) (s .args .gap) (given s) (p .sound)),
-    )
+flex-in-requires : tie.Need-flex-in-requires
+flex-in-requires c κs = (c .before .before .before .before .before .before .before .before .before .before .before .before .before .before .before .pre, omega (arith, c .before .before .if1 .taken))
 
 same-length : tie.Need-same-length
 same-length c = search needs
 
 returns : tie.Need-returns
-returns c =
-    let s = c .before .before .before .before .before .before .before .before .before .before .before .before .before .before .before .before .before .before .before .before .before in
-    answered-as _ _ _ _ _ _ (c .before .before .before .before .before .clean .ensures) (c .before .before .before .before .clean2 .ensures) (items-are (given s) (c .before .before .before .before .before .before .before .read-items .last .1 .1 .1 .1 .1 .1 .1 .1 .1 .1 .1 .0) (c .before .before .before .before .before .before .before .read-items .ensures)) (c .before .before .flex-read .result) (now (s .args .targets)) (c .before .before .flex-read .last .1 .1 .1 .1 .0) (c .before .before .flex-read .ensures)
+returns c = c .before .before .before .flex-in .ensures
+
+slice-aggregate-flex-in-2 : tie.Need-slice-aggregate-flex-in-2
+slice-aggregate-flex-in-2 c = search needs
+
+flex-in-requires-2 : tie.Need-flex-in-requires-2
+flex-in-requires-2 c κs = (c .before .before .before .before .before .before .before .before .before .before .before .before .before .before .before .before .pre, omega (arith, c .before .before .if2 .taken))
+
+same-length-2 : tie.Need-same-length-2
+same-length-2 c = search needs
+
+returns-2 : tie.Need-returns-2
+returns-2 c = c .before .before .before .flex-in2 .ensures
+
+slice-aggregate-flex-in-3 : tie.Need-slice-aggregate-flex-in-3
+slice-aggregate-flex-in-3 c = search needs
+
+flex-in-requires-3 : tie.Need-flex-in-requires-3
+flex-in-requires-3 c κs = (c .before .before .before .before .before .before .before .before .before .before .before .before .before .before .before .before .pre, omega (arith, c .before .before .before .before .before .before .before .before .before .before .before .before .before .before .before .before .pre .even .few))
+
+same-length-3 : tie.Need-same-length-3
+same-length-3 c = search needs
+
+returns-3 : tie.Need-returns-3
+returns-3 c = c .before .before .before .flex-in3 .ensures
 
 pub flex-checked-spec : {M : Type 1} → statement M
 flex-checked-spec =
     tie.close
     (tie.spec
-    read-items-requires
-    clean-requires
-    clean-requires-2
-    flex-read-requires
+    slice-aggregate-flex-in
+    flex-in-requires
     same-length
-    returns)
+    returns
+    slice-aggregate-flex-in-2
+    flex-in-requires-2
+    same-length-2
+    returns-2
+    slice-aggregate-flex-in-3
+    flex-in-requires-3
+    same-length-3
+    returns-3)

@@ -40,9 +40,9 @@ enum-told c = search needs
 flex-items-requires : tie.Need-flex-items-requires
 flex-items-requires c κs =
     let v = c .before .before .before in
-    let s = v .before .before .before in
+    let s = v .before .before .before .before in
     let t = now (s .args .table) in (
-      omega (arith, s .pre .0),
+      (omega (arith, s .pre .0 .0), omega (arith, s .pre .0 .1)),
       s .pre .1,
       record {
         inner-is = s .pre .2;

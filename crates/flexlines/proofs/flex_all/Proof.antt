@@ -23,12 +23,12 @@ flex-each-requires c κs = search needs
 
 clear-free-requires : tie.Need-clear-free-requires
 clear-free-requires c κs =
-    let s = c .before .before .before .before .before .before .before .before .before .before .before .before .before in
+    let s = c .before .before .before .before .before .before .before .before .before .before .before .before .before .before in
     (omega (arith, within s), omega (arith, within s, c .before .before .before .before .before .before .flex-each .ensures .free-past .long, s .pre .divided .free-room))
 
 clear-rounds-requires : tie.Need-clear-rounds-requires
 clear-rounds-requires c κs =
-    let s = c .before .before .before .before .before .before .before .before .before .before .before .before .before .before .before .before in
+    let s = c .before .before .before .before .before .before .before .before .before .before .before .before .before .before .before .before .before in
     (omega (arith, within s), omega (arith, within s, c .before .before .before .before .before .before .before .before .before .flex-each .ensures .rounds-past .long, s .pre .divided .rounds-room))
 
 same-length : tie.Need-same-length
@@ -42,7 +42,7 @@ same-length-3 c = search needs
 
 returns : tie.Need-returns
 returns c =
-    let s = c .before .before .before .before .before .before .before .before .before .before .before .before .before .before .before .before .before .before .before in
+    let s = c .before .before .before .before .before .before .before .before .before .before .before .before .before .before .before .before .before .before .before .before in
     let a = s .args in
     let f = c .before .before .before .before .before .before .before .before .before .before .before .before .flex-each in
     lines-flexed (a .inner) (a .gap) (itemIn (now (a .table))) (a .n) (now (a .counts)) (f .result) (now (a .targets)) (now (a .free)) (now (a .rounds)) (f .last .1 .1 .1 .1 .1 .0) (f .last .1 .1 .1 .1 .1 .1 .0) (f .last .1 .1 .1 .1 .1 .1 .1 .0) (c .before .before .before .before .before .clear-free .last .0) (c .before .before .clear-rounds .last .0)

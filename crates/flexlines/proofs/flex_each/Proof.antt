@@ -26,13 +26,13 @@ abbrev μ-loop : tie.MeasureT-loop
 μ-loop table n inner gap counts targets₀ free₀ rounds₀ sum₀ start₀ line₀ targets free rounds sum start line = length counts - line
 
 abbrev start-of : tie.In-loop Inv-loop μ-loop → tie.Start Inv-loop μ-loop
-start-of c = c .before .before .before .before .before
+start-of c = c .before .before .before .before .before .before
 
 -- the items of the line
 abbrev count-of : tie.In-loop Inv-loop μ-loop → ℕ
 count-of c = getD (now (start-of c .args .counts)) (c .before .loop .line) 0
 
-turn : (c : tie.In-loop Inv-loop μ-loop) → let l = c .before .loop in Turn (l .start) (count-of c) (l .line) (l .sum) (l .targets) (l .free) (l .rounds)
+turn : (c : tie.In-loop Inv-loop μ-loop) → let l = c .before .loop in Turn (now (start-of c .args .table)) (l .start) (count-of c) (l .line) (l .sum) (l .targets) (l .free) (l .rounds)
 turn c =
     let s = start-of c in
     let l = c .before .loop in
@@ -47,7 +47,7 @@ accepted c =
 
 loop-holds : tie.Need-loop-holds Inv-loop μ-loop
 loop-holds c =
-    let a = c .before .before .before .args in
+    let a = c .before .before .before .before .args in
     going-none (a .inner) (a .gap) (itemIn (now (a .table))) (now (a .counts)) (now (a .targets)) (now (a .free)) (now (a .rounds))
 
 mul-count : tie.Need-mul-count Inv-loop μ-loop
@@ -57,13 +57,13 @@ shared-slice-read-count : tie.Need-shared-slice-read-count Inv-loop μ-loop
 shared-slice-read-count c = c .before .loop-test .taken
 
 cast-count : tie.Need-cast-count Inv-loop μ-loop
-cast-count c = omega (arith, turn (c .before) .inside)
+cast-count c = omega (arith, turn (c .before) .inside .0)
 
 add-end : tie.Need-add-end Inv-loop μ-loop
-add-end c = omega (arith, turn (c .before) .inside)
+add-end c = omega (arith, turn (c .before) .inside .0)
 
 mul-flex-items : tie.Need-mul-flex-items Inv-loop μ-loop
-mul-flex-items c = omega (arith, turn (c .before) .inside)
+mul-flex-items c = omega (arith, turn (c .before) .inside .0)
 
 sub-flex-items : tie.Need-sub-flex-items Inv-loop μ-loop
 sub-flex-items c = omega arith
@@ -97,7 +97,7 @@ add-sum : tie.Need-add-sum Inv-loop μ-loop
 add-sum c =
     let i = c .before .before .before .before .before .before .before .before .before .before .before in
     let t = turn i in
-    omega (arith, t .inside, t .less, c .before .before .before .before .before .before .before .before .flex-items .ensures .few, length-each (count-of i) (λ k. itemIn (now (start-of i .args .table)) (i .before .loop .start + k)))
+    omega (arith, t .inside .0, t .less, c .before .before .before .before .before .before .before .before .flex-items .ensures .few, length-each (count-of i) (λ k. itemIn (now (start-of i .args .table)) (i .before .loop .start + k)))
 
 add-line : tie.Need-add-line Inv-loop μ-loop
 add-line c = omega (arith, turn (c .before .before .before .before .before .before .before .before .before .before .before) .line-few)
@@ -128,7 +128,7 @@ same-length-3 c = c .before .loop .inv .flowed .rounds-past .long
 
 returns : tie.Need-returns Inv-loop μ-loop
 returns c =
-    let a = c .before .before .before .before .before .args in
+    let a = c .before .before .before .before .before .before .args in
     let l = c .before .loop in
     going-all (a .inner) (a .gap) (itemIn (now (a .table))) (now (a .counts)) (now (a .targets)) (now (a .free)) (now (a .rounds)) (l .targets) (l .free) (l .rounds) (l .sum) (l .start) (l .line) (l .inv) (c .loop-test .left)
 

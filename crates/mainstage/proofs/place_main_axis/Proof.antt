@@ -19,7 +19,7 @@ slice-aggregate-place-by-way-4 : tie.Need-slice-aggregate-place-by-way-4
 slice-aggregate-place-by-way-4 c = search needs
 
 place-by-way-requires : tie.Need-place-by-way-requires
-place-by-way-requires c κs = let s = c .before .before .before .before .before .before .before .before .before .before .before .before in let few = s .pre .0 .listed .few in ((s .pre .0, s .pre .1), (few, few, few, few))
+place-by-way-requires c κs = let s = c .before .before .before .before .before .before .before .before .before .before .before .before .before in let few = s .pre .0 .listed .few in ((s .pre .0, s .pre .1), (few, few, few, few))
 
 same-length : tie.Need-same-length
 same-length c = search needs

@@ -23,7 +23,7 @@ clean-requires-2 : tie.Need-clean-requires-2
 clean-requires-2 c κs = search needs
 
 flex-all-requires : tie.Need-flex-all-requires
-flex-all-requires c κs = let s = c .before .before .before .before .before .before .before .before .before .before .before .before .before in flex-asked (s .pre .0) _ _ _ (c .before .before .before .before .clean .ensures) (c .before .before .before .clean2 .ensures) (s .pre .1 .0)
+flex-all-requires c κs = let s = c .before .before .before .before .before .before .before .before .before .before .before .before .before .before in flex-asked (s .pre .0) _ _ _ (c .before .before .before .before .clean .ensures) (c .before .before .before .clean2 .ensures) (s .pre .1 .0)
 
 content-of-requires : tie.Need-content-of-requires
 content-of-requires c κs = search needs
@@ -32,19 +32,19 @@ is-reversed-requires : tie.Need-is-reversed-requires
 is-reversed-requires c κs = search needs
 
 column-requires : tie.Need-column-requires
-column-requires c κs = number-inside (c .before .before .before .before .before .before .before .before .before .before .before .before .before .before .before .before .before .before .before .before .before .before .pre .0 .listed) 6 (omega arith)
+column-requires c κs = number-inside (c .before .before .before .before .before .before .before .before .before .before .before .before .before .before .before .before .before .before .before .before .before .before .before .pre .0 .listed) 6 (omega arith)
 
 column-requires-2 : tie.Need-column-requires-2
-column-requires-2 c κs = number-inside (c .before .before .before .before .before .before .before .before .before .before .before .before .before .before .before .before .before .before .before .before .before .before .before .pre .0 .listed) 7 (omega arith)
+column-requires-2 c κs = number-inside (c .before .before .before .before .before .before .before .before .before .before .before .before .before .before .before .before .before .before .before .before .before .before .before .before .pre .0 .listed) 7 (omega arith)
 
 code-column-requires : tie.Need-code-column-requires
-code-column-requires c κs = code-inside (c .before .before .before .before .before .before .before .before .before .before .before .before .before .before .before .before .before .before .before .before .before .before .before .before .pre .0 .listed) 1 (omega arith)
+code-column-requires c κs = code-inside (c .before .before .before .before .before .before .before .before .before .before .before .before .before .before .before .before .before .before .before .before .before .before .before .before .before .pre .0 .listed) 1 (omega arith)
 
 code-column-requires-2 : tie.Need-code-column-requires-2
-code-column-requires-2 c κs = code-inside (c .before .before .before .before .before .before .before .before .before .before .before .before .before .before .before .before .before .before .before .before .before .before .before .before .before .pre .0 .listed) 2 (omega arith)
+code-column-requires-2 c κs = code-inside (c .before .before .before .before .before .before .before .before .before .before .before .before .before .before .before .before .before .before .before .before .before .before .before .before .before .before .pre .0 .listed) 2 (omega arith)
 
 main-by-line-requires : tie.Need-main-by-line-requires
-main-by-line-requires c κs = let s = c .before .before .before .before .before .before .before .before .before .before .before .before .before .before .before .before .before .before .before .before .before .before .before .before .before .before .before .before .before in main-asked (s .pre .0) _ _ _ _ _ _ _ _ (c .before .before .before .before .before .before .before .before .before .before .before .before .before .before .before .flex-all .ensures .long ∙ s .pre .1 .0) (c .before .before .before .before .before .before .column .ensures) (c .before .before .before .before .before .column2 .ensures) (c .before .before .before .before .code-column .ensures) (c .before .before .before .code-column2 .ensures) (s .pre .1 .1) (s .pre .1 .2) (s .pre .1 .3)
+main-by-line-requires c κs = let s = c .before .before .before .before .before .before .before .before .before .before .before .before .before .before .before .before .before .before .before .before .before .before .before .before .before .before .before .before .before .before in main-asked (s .pre .0) _ _ _ _ _ _ _ _ (c .before .before .before .before .before .before .before .before .before .before .before .before .before .before .before .flex-all .ensures .long ∙ s .pre .1 .0) (c .before .before .before .before .before .before .column .ensures) (c .before .before .before .before .before .column2 .ensures) (c .before .before .before .before .code-column .ensures) (c .before .before .before .code-column2 .ensures) (s .pre .1 .1) (s .pre .1 .2) (s .pre .1 .3)
 
 same-length : tie.Need-same-length
 same-length c = search needs
@@ -66,7 +66,7 @@ same-length-6 c = search needs
 
 returns : tie.Need-returns
 returns c =
-    let s = c .before .before .before .before .before .before .before .before .before .before .before .before .before .before .before .before .before .before .before .before .before .before .before .before .before .before .before .before .before .before .before .before .before .before .before .before in
+    let s = c .before .before .before .before .before .before .before .before .before .before .before .before .before .before .before .before .before .before .before .before .before .before .before .before .before .before .before .before .before .before .before .before .before .before .before .before .before in
     let f = c .before .before .before .before .before .before .before .before .before .before .before .before .before .before .before .before .before .before .before .before .before .before .flex-all in
     let m = c .before .before .before .before .before .before .main-by-line in
     record {

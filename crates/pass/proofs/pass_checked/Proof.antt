@@ -1,16 +1,19 @@
 -- The items are read, check 6 is made, and then all stages. Assumes nothing.
 use mathlib.Core.Path.{_≡_, refl, sym, ap, _∙_, subst}
+use mathlib.Core.List.{List}
 use native.Mathlib.Nat.{le-trans, le-of-eq}
+use lib.ListN.{replicate}
 use lib.Ieee.{Float}
 use denote.Ref.{now}
+use Rattle.grid.specs.Floats.{nought}
 use Rattle.grid.specs.Grid.{Length, cleaned}
 use Rattle.refusal.specs.Domain.{summed}
 use Rattle.refusal.proofs.Checks.{summed-passed}
 use Rattle.flexing.specs.Flex.{outerSum}
-use Rattle.rounds.specs.Cells.{itemsIn}
+use Rattle.rounds.specs.Cells.{Wide, itemsIn}
 use Rattle.passchecks.specs.Checks.{passSum}
 use Rattle.pass.specs.Pass.{lent}
-use Rattle.pass.proofs.AcceptLaws.{items-in, listed-of, gap-is, table-is, accepted-of}
+use Rattle.pass.proofs.AcceptLaws.{wide-of, items-in, listed-of, gap-is, table-is, accepted-of}
 use Rattle.pass.proofs.LaidLaws.{answered-as}
 use borrow.Author.Needs.{needs}
 use Rattle.pass.proofs.pass_checked.Statement.{statement}
@@ -23,21 +26,40 @@ use Rattle.pass.proofs.stages.lay_out.Reads as lay-out-reads
 use Rattle.pass.proofs.stages.read_main.Reads as read-main-reads
 use Rattle.refusal.proofs.check_sum.Reads as check-sum-reads
 
+slice-aggregate-read-main : tie.Need-slice-aggregate-read-main
+slice-aggregate-read-main c = search needs
+
 read-main-requires : tie.Need-read-main-requires
-read-main-requires c κs = (listed-of (c .before .before .before .before .before .before .before .before .before .pre), refl)
+read-main-requires c κs = let l = listed-of (c .before .before .before .before .before .before .before .before .before .pre) in (l, wide-of (replicate 8192 nought) _ refl (l .few))
+
+-- the table, as it is read, and where the call began
+abbrev began : tie.After-read-main → tie.Start
+began c = c .before .before .before .before .before .before .before .before .before .before
+
+abbrev items : tie.After-read-main → List Float
+items c = c .read-main .last .1 .1 .1 .0
+
+wide : (c : tie.After-read-main) → Wide (items c) (began c .args .n)
+wide c = wide-of (items c) (began c .args .n) (c .read-main .kept .1 .1 .1 .0) (listed-of (began c .pre) .few)
 
 -- the sum of check 6
-sum-is : (c : tie.After-outer-sum) → let s = c .before .before .before .before .before .before .before .before .before .before .before .before .before in c .outer-sum .result ≡ outerSum (cleaned (s .args .c .«gap_main»)) (itemsIn (c .before .before .before .read-main .last .1 .1 .1 .0) 0 (s .args .n))
-sum-is c = let s = c .before .before .before .before .before .before .before .before .before .before .before .before .before in c .outer-sum .ensures ∙ ap (λ (g : Float). outerSum g (itemsIn (c .before .before .before .read-main .last .1 .1 .1 .0) 0 (s .args .n))) (c .before .before .clean .ensures)
+sum-is : (c : tie.After-outer-sum) → let r = c .before .before .before .before in c .outer-sum .result ≡ outerSum (cleaned (began r .args .c .«gap_main»)) (itemsIn (items r) 0 (began r .args .n))
+sum-is c = let r = c .before .before .before .before in c .outer-sum .ensures ∙ ap (λ (g : Float). outerSum g (itemsIn (items r) 0 (began r .args .n))) (c .before .before .clean .ensures)
 
-pass-sum : (c : tie.After-outer-sum) → let s = c .before .before .before .before .before .before .before .before .before .before .before .before .before in c .outer-sum .result ≡ passSum (s .args .c) (s .args .n) (now (s .args .numbers)) (now (s .args .codes))
-pass-sum c = let s = c .before .before .before .before .before .before .before .before .before .before .before .before .before in sum-is c ∙ ap (outerSum (cleaned (s .args .c .«gap_main»))) (items-in (c .before .before .before .read-main .last .1 .1 .1 .0) (listed-of (s .pre)) (c .before .before .before .read-main .ensures))
+pass-sum : (c : tie.After-outer-sum) → let s = began (c .before .before .before .before) in c .outer-sum .result ≡ passSum (s .args .c) (s .args .n) (now (s .args .numbers)) (now (s .args .codes))
+pass-sum c = let r = c .before .before .before .before in let s = began r in sum-is c ∙ ap (outerSum (cleaned (s .args .c .«gap_main»))) (items-in (items r) (listed-of (s .pre)) (r .read-main .ensures .0))
 
 clean-requires : tie.Need-clean-requires
 clean-requires c κs = search needs
 
+slice-aggregate-outer-sum : tie.Need-slice-aggregate-outer-sum
+slice-aggregate-outer-sum c = search needs
+
 outer-sum-requires : tie.Need-outer-sum-requires
-outer-sum-requires c κs = let s = c .before .before .before .before .before .before .before .before .before .before .before .before in (listed-of (s .pre) .few, subst Length (sym (c .before .clean .ensures)) (gap-is (s .pre)), table-is (s .pre) (c .before .before .read-main .last .1 .1 .1 .0) (c .before .before .read-main .ensures))
+outer-sum-requires c κs =
+    let r = c .before .before .before in
+    let k = began r .pre in
+    (wide r, subst Length (sym (c .before .clean .ensures)) (gap-is k), table-is k (items r) (wide r) (r .read-main .ensures .0))
 
 check-sum-requires : tie.Need-check-sum-requires
 check-sum-requires c κs = search needs
@@ -48,10 +70,15 @@ enum-known-v c = search needs
 enum-told : tie.Need-enum-told
 enum-told c = search needs
 
+slice-aggregate-lay-out : tie.Need-slice-aggregate-lay-out
+slice-aggregate-lay-out c = search needs
+
 lay-out-requires : tie.Need-lay-out-requires
-lay-out-requires c κs = let s = c .before .before .before .before .before .before .before .before .before .before .before .before .before .before .before .before .before .before .before .before .before .before .before .before in
-    let w = summed-passed (c .before .before .before .before .before .before .before .before .before .before .before .outer-sum .result) (sym (c .before .before .before .before .before .before .before .before .before .before .check-sum .ensures) ∙ c .before .before .before .before .before .before .before .before .enum-told .given .1) in
-    accepted-of (s .pre) (c .before .before .before .before .before .before .before .before .before .before .before .before .before .before .read-main .last .1 .1 .1 .0) (c .before .before .before .before .before .before .before .before .before .before .before .before .before .before .read-main .ensures) (le-trans {m = c .before .before .before .before .before .before .before .before .before .before .before .outer-sum .result} (le-of-eq (sym (sum-is (c .before .before .before .before .before .before .before .before .before .before .before)))) w)
+lay-out-requires c κs =
+    let o = c .before .before .before .before .before .before .before .before .before .before .before in
+    let r = c .before .before .before .before .before .before .before .before .before .before .before .before .before .before .before in
+    let w = summed-passed (o .outer-sum .result) (sym (c .before .before .before .before .before .before .before .before .before .before .check-sum .ensures) ∙ c .before .before .before .before .before .before .before .before .enum-told .given .1) in
+    accepted-of (began r .pre) (items r) (wide r) (r .read-main .ensures .0) (le-trans {m = o .outer-sum .result} (le-of-eq (sym (sum-is o))) w)
 
 returns : tie.Need-returns
 returns c = (sym (ap summed (pass-sum (c .before .before .before .before))) ∙ sym (c .before .before .before .check-sum .ensures) ∙ c .before .v .given .1, refl)
@@ -78,7 +105,7 @@ same-length-7 : tie.Need-same-length-7
 same-length-7 c = c .before .before .before .before .before .before .before .before .before .before .before .before .before .lay-out .kept .1 .1 .1 .1 .1 .1 .1 .1 .1 .1 .1 .0
 
 returns-2 : tie.Need-returns-2
-returns-2 c = let a = c .before .before .before .before .before .before .before .before .before .before .before .before .before .before .before .before .before .before .before .before .before .before .before .before .before .before .before .before .before .before .before .before .before .before .before .before .before .before .args in
+returns-2 c = let a = c .before .before .before .before .before .before .before .before .before .before .before .before .before .before .before .before .before .before .before .before .before .before .before .before .before .before .before .before .before .before .before .before .before .before .before .before .before .before .before .args in
     let f = c .before .before .before .before .before .before .before .before .before .before .before .before .before .lay-out in
     answered-as (a .c) (a .n) (now (a .numbers)) (now (a .codes)) (lent (now (a .placed)) (now (a .lines)) (now (a .counts)) (now (a .rounds)) (now (a .free)) (now (a .work)) (now (a .sums))) (f .result) (lent (f .last .1 .1 .1 .1 .1 .0) (f .last .1 .1 .1 .1 .1 .1 .0) (f .last .1 .1 .1 .1 .1 .1 .1 .0) (f .last .1 .1 .1 .1 .1 .1 .1 .1 .0) (f .last .1 .1 .1 .1 .1 .1 .1 .1 .1 .0) (f .last .1 .1 .1 .1 .1 .1 .1 .1 .1 .1 .0) (f .last .1 .1 .1 .1 .1 .1 .1 .1 .1 .1 .1 .0))
     (sym (sym (ap summed (pass-sum (c .before .before .before .before .before .before .before .before .before .before .before .before .before .before .before .before .before .before .before .before .before .before .before .before .before))) ∙ sym (c .before .before .before .before .before .before .before .before .before .before .before .before .before .before .before .before .before .before .before .before .before .before .before .before .check-sum .ensures) ∙ c .before .before .before .before .before .before .before .before .before .before .before .before .before .before .before .before .before .before .before .before .before .before .enum-told .given .1)) (f .ensures)
@@ -87,12 +114,15 @@ pub pass-checked-spec : {M : Type 1} → statement M
 pass-checked-spec =
     tie.close
     (tie.spec
+    slice-aggregate-read-main
     read-main-requires
     clean-requires
+    slice-aggregate-outer-sum
     outer-sum-requires
     check-sum-requires
     enum-known-v
     enum-told
+    slice-aggregate-lay-out
     lay-out-requires
     returns
     same-length

@@ -34,11 +34,11 @@ abbrev μ-loop : tie.MeasureT-loop
 
 loop-holds : tie.Need-loop-holds Inv-loop μ-loop
 loop-holds c =
-    let a = c .before .args in
+    let a = c .before .before .args in
     record { inside = zero-le; long = refl; cells = each-none (size (now (a .table))) (now (a .sizes)) }
 
 pick-requires : tie.Need-pick-requires Inv-loop μ-loop
-pick-requires c κs = omega (arith, c .loop-test .taken, c .before .before .before .pre .0)
+pick-requires c κs = let p = c .before .before .before .before .pre .0 in (omega (arith, c .loop-test .taken, p .0), omega (arith, c .loop-test .taken, p .1))
 
 hypothetical-size-requires : tie.Need-hypothetical-size-requires Inv-loop μ-loop
 hypothetical-size-requires c κs = search needs
@@ -46,17 +46,17 @@ hypothetical-size-requires c κs = search needs
 outer-size-requires : tie.Need-outer-size-requires Inv-loop μ-loop
 outer-size-requires c κs = search needs
 
-inside : (c : tie.After-outer-size Inv-loop μ-loop) → c .before .before .before .before .loop .i < length (now (c .before .before .before .before .before .before .args .sizes))
-inside c = omega (arith, c .before .before .before .loop-test .taken, c .before .before .before .before .before .before .pre .1)
+inside : (c : tie.After-outer-size Inv-loop μ-loop) → c .before .before .before .before .loop .i < length (now (c .before .before .before .before .before .before .before .args .sizes))
+inside c = omega (arith, c .before .before .before .loop-test .taken, c .before .before .before .before .before .before .before .pre .1)
 
 mul-sizes : tie.Need-mul-sizes Inv-loop μ-loop
-mul-sizes c = omega (arith, c .before .before .before .loop-test .taken, c .before .before .before .before .before .before .pre .0)
+mul-sizes c = omega (arith, c .before .before .before .loop-test .taken, c .before .before .before .before .before .before .before .pre .0 .0)
 
 slice-write-sizes : tie.Need-slice-write-sizes Inv-loop μ-loop
 slice-write-sizes c = omega (arith, inside c, c .before .before .before .before .loop .inv .long)
 
 add-i : tie.Need-add-i Inv-loop μ-loop
-add-i c = omega (arith, c .before .before .before .loop-test .taken, c .before .before .before .before .before .before .pre .0)
+add-i c = omega (arith, c .before .before .before .loop-test .taken, c .before .before .before .before .before .before .before .pre .0 .0)
 
 loop-less : tie.Need-loop-less Inv-loop μ-loop
 loop-less c = omega (arith, c .before .before .before .loop-test .taken)
@@ -64,7 +64,7 @@ loop-less c = omega (arith, c .before .before .before .loop-test .taken)
 loop-again : tie.Need-loop-again Inv-loop μ-loop
 loop-again c =
     let l = c .before .before .before .before .loop in
-    let a = c .before .before .before .before .before .before .args in
+    let a = c .before .before .before .before .before .before .before .args in
     let it = c .before .before .pick .ensures ∙ ap (itemIn (now (a .table))) (sym (zero-add (l .i))) in
     let v =
     c .outer-size .ensures
@@ -82,7 +82,7 @@ same-length c = c .before .loop .inv .long
 returns : tie.Need-returns Inv-loop μ-loop
 returns c =
     let l = c .before .loop in
-    let a = c .before .before .before .args in
+    let a = c .before .before .before .before .args in
     l .inv .cells
     ∙ ap (λ (k : ℕ). each k (size (now (a .table))) ++ drop k (now (a .sizes))) (le-antisymm (l .inv .inside) (c .loop-test .left))
     ∙ ap (λ (s : List Float). s ++ drop (a .n) (now (a .sizes))) (sym (map-each (λ (it : Item). outer it (hypothetical it)) (a .n) (λ (i : ℕ). itemIn (now (a .table)) (0 + i))))

@@ -19,8 +19,8 @@ use Rattle.wrapping.proofs.break_lines.Reads as break-lines-reads
 use Rattle.wrapping.proofs.outer_sizes.Reads as outer-sizes-reads
 
 -- the sizes, as the frame holds them
-sizes : (c : tie.After-outer-sizes) → let a = c .before .before .before .before .before .args in take (a .n) (c .outer-sizes .last .1 .1 .0) ≡ outerSizes (itemsIn (now (a .table)) 0 (a .n))
-sizes c = let a = c .before .before .before .before .before .args in ap (take (a .n)) (c .outer-sizes .ensures) ∙ sizes-lent (now (a .table)) (a .n) _
+sizes : (c : tie.After-outer-sizes) → let a = c .before .before .before .before .before .before .args in take (a .n) (c .outer-sizes .last .1 .1 .0) ≡ outerSizes (itemsIn (now (a .table)) 0 (a .n))
+sizes c = let a = c .before .before .before .before .before .before .args in ap (take (a .n)) (c .outer-sizes .ensures) ∙ sizes-lent (now (a .table)) (a .n) _
 
 slice-aggregate-outer-sizes : tie.Need-slice-aggregate-outer-sizes
 slice-aggregate-outer-sizes c = search needs
@@ -41,10 +41,10 @@ array-share-prefix-sizes : tie.Need-array-share-prefix-sizes
 array-share-prefix-sizes c = search needs
 
 slice-aggregate-break-lines : tie.Need-slice-aggregate-break-lines
-slice-aggregate-break-lines c = let a = c .before .before .before .before .before .before .before .before .before .before .args in sym (ap length (sizes (c .before .before .before .before .before)) ∙ sizes-long (now (a .table)) (a .n))
+slice-aggregate-break-lines c = let a = c .before .before .before .before .before .before .before .before .before .before .before .args in sym (ap length (sizes (c .before .before .before .before .before)) ∙ sizes-long (now (a .table)) (a .n))
 
 break-lines-requires : tie.Need-break-lines-requires
-break-lines-requires c κs = let s = c .before .before .before .before .before .before .before .before .before .before .before .before .before in
+break-lines-requires c κs = let s = c .before .before .before .before .before .before .before .before .before .before .before .before .before .before in
     let a = s .args in
     breaks-as (wrapping.lent (now (a .counts)) (now (a .work)) (now (a .sums))) (c .before .before .before .before .before .before .mode-of .ensures) (c .before .before .before .before .before .space-of .ensures) (c .before .before .before .before .clean .ensures) (sizes (c .before .before .before .before .before .before .before .before)) (sizes-long (now (a .table)) (a .n)) (s .pre .breakable) (s .pre .room)
 
@@ -58,7 +58,7 @@ same-length-3 : tie.Need-same-length-3
 same-length-3 c = c .before .before .before .before .before .before .break-lines .kept .1 .1 .1 .1 .1 .1 .1 .0
 
 returns : tie.Need-returns
-returns c = let a = c .before .before .before .before .before .before .before .before .before .before .before .before .before .before .before .before .before .before .before .before .args in
+returns c = let a = c .before .before .before .before .before .before .before .before .before .before .before .before .before .before .before .before .before .before .before .before .before .args in
     broken-as (wrapping.lent (now (a .counts)) (now (a .work)) (now (a .sums))) (c .before .before .before .before .before .before .before .before .before .before .before .before .before .mode-of .ensures) (c .before .before .before .before .before .before .before .before .before .before .before .before .space-of .ensures) (c .before .before .before .before .before .before .before .before .before .before .before .clean .ensures) (sizes (c .before .before .before .before .before .before .before .before .before .before .before .before .before .before .before)) (c .before .before .before .before .before .before .break-lines .ensures)
 
 pub break-items-spec : {M : Type 1} → statement M

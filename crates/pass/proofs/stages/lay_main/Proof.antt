@@ -15,16 +15,16 @@ use Rattle.mainstage.proofs.place_main_axis.Reads as place-main-axis-reads
 use Rattle.pass.proofs.stages.break_items.Reads as break-items-reads
 
 break-items-requires : tie.Need-break-items-requires
-break-items-requires c κs = c .before .before .before .before .before .before .before .before .before .before .pre .breaks
+break-items-requires c κs = c .before .before .before .before .before .before .before .before .before .before .before .pre .breaks
 
 slice-reshare-prefix-place-main-axis : tie.Need-slice-reshare-prefix-place-main-axis
-slice-reshare-prefix-place-main-axis c = le-trans {m = c .before .before .before .before .before .before .before .before .before .before .before .before .before .before .before .before .before .args .n} (lines-few (c .before .before .before .before .before .before .before .before .before .before .before .before .before .before .before .before .before .args .c) (c .before .before .before .before .before .before .before .before .before .before .before .before .before .before .before .before .before .args .n) (now (c .before .before .before .before .before .before .before .before .before .before .before .before .before .before .before .before .before .args .table)) (c .before .before .before .before .before .before .break-items .ensures)) (le-trans {m = length (now (c .before .before .before .before .before .before .before .before .before .before .before .before .before .before .before .before .before .args .counts))} (c .before .before .before .before .before .before .before .before .before .before .before .before .before .before .before .before .before .pre .counts-room) (le-of-eq (sym (c .before .before .before .before .before .before .break-items .kept .1 .1 .1 .0))))
+slice-reshare-prefix-place-main-axis c = le-trans {m = c .before .before .before .before .before .before .before .before .before .before .before .before .before .before .before .before .before .before .args .n} (lines-few (c .before .before .before .before .before .before .before .before .before .before .before .before .before .before .before .before .before .before .args .c) (c .before .before .before .before .before .before .before .before .before .before .before .before .before .before .before .before .before .before .args .n) (now (c .before .before .before .before .before .before .before .before .before .before .before .before .before .before .before .before .before .before .args .table)) (c .before .before .before .before .before .before .break-items .ensures)) (le-trans {m = length (now (c .before .before .before .before .before .before .before .before .before .before .before .before .before .before .before .before .before .before .args .counts))} (c .before .before .before .before .before .before .before .before .before .before .before .before .before .before .before .before .before .before .pre .counts-room) (le-of-eq (sym (c .before .before .before .before .before .before .break-items .kept .1 .1 .1 .0))))
 
 slice-aggregate-place-main-axis : tie.Need-slice-aggregate-place-main-axis
-slice-aggregate-place-main-axis c = let a = c .before .before .before .before .before .before .before .before .before .before .before .before .before .before .before .before .before .before .args in sym (lines-long (a .c) (a .n) (now (a .table)) (c .before .before .before .before .before .before .before .break-items .ensures))
+slice-aggregate-place-main-axis c = let a = c .before .before .before .before .before .before .before .before .before .before .before .before .before .before .before .before .before .before .before .args in sym (lines-long (a .c) (a .n) (now (a .table)) (c .before .before .before .before .before .before .before .break-items .ensures))
 
 place-main-axis-requires : tie.Need-place-main-axis-requires
-place-main-axis-requires c κs = let s = c .before .before .before .before .before .before .before .before .before .before .before .before .before .before .before .before .before .before .before .before .before in (main-ready (s .pre) (c .before .before .before .before .before .before .before .before .before .before .break-items .ensures), le-trans {m = 8 * s .args .n} (omega arith) (s .pre .placed-room))
+place-main-axis-requires c κs = let s = c .before .before .before .before .before .before .before .before .before .before .before .before .before .before .before .before .before .before .before .before .before .before in (main-ready (s .pre) (c .before .before .before .before .before .before .before .before .before .before .break-items .ensures), le-trans {m = 8 * s .args .n} (omega arith) (s .pre .placed-room))
 
 same-length : tie.Need-same-length
 same-length c = c .before .before .before .before .before .place-main-axis .kept .1 .1 .1 .1 .1 .1 .0

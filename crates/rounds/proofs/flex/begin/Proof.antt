@@ -32,31 +32,31 @@ abbrev want : tie.Start Inv-loop μ-loop → ℕ → Cell
 want s k = first (s .args .growing) (items s k)
 
 loop-holds : tie.Need-loop-holds Inv-loop μ-loop
-loop-holds c = let s = c .before in turned-none (s .args .n) (want s) (items s) (now (s .args .frozen)) (now (s .args .targets))
+loop-holds c = let s = c .before .before .before in turned-none (s .args .n) (want s) (items s) (now (s .args .frozen)) (now (s .args .targets))
 
 add-pick : tie.Need-add-pick Inv-loop μ-loop
-add-pick c = omega (arith, c .loop-test .taken, c .before .before .before .pre .inside)
+add-pick c = omega (arith, c .loop-test .taken, c .before .before .before .before .before .pre .inside .0)
 
 pick-requires : tie.Need-pick-requires Inv-loop μ-loop
-pick-requires c κs = omega (arith, c .loop-test .taken, c .before .before .before .pre .inside)
+pick-requires c κs = let p = c .before .before .before .before .before .pre .inside in (omega (arith, c .loop-test .taken, p .0), omega (arith, c .loop-test .taken, p .1))
 
 is-inflexible-requires : tie.Need-is-inflexible-requires Inv-loop μ-loop
 is-inflexible-requires c κs = tt
 
-element-write-frozen : tie.Need-element-write-frozen Inv-loop μ-loop
-element-write-frozen c = omega (arith, c .before .before .loop-test .taken, c .before .before .before .before .before .pre .inside)
+slice-write-frozen : tie.Need-slice-write-frozen Inv-loop μ-loop
+slice-write-frozen c = omega (arith, c .before .before .loop-test .taken, c .before .before .before .loop .inv .marks, c .before .before .before .before .before .before .before .pre .marks)
 
 hypothetical-size-requires : tie.Need-hypothetical-size-requires Inv-loop μ-loop
 hypothetical-size-requires c κs = tt
 
 mul-targets : tie.Need-mul-targets Inv-loop μ-loop
-mul-targets c = omega (arith, c .before .before .before .loop-test .taken, c .before .before .before .before .before .before .pre .inside)
+mul-targets c = omega (arith, c .before .before .before .loop-test .taken, c .before .before .before .before .before .before .before .before .pre .inside .0)
 
 slice-write-targets : tie.Need-slice-write-targets Inv-loop μ-loop
-slice-write-targets c = omega (arith, c .before .before .before .loop-test .taken, c .before .before .before .before .loop .inv .long, c .before .before .before .before .before .before .pre .room)
+slice-write-targets c = omega (arith, c .before .before .before .loop-test .taken, c .before .before .before .before .loop .inv .long, c .before .before .before .before .before .before .before .before .pre .room)
 
 add-i : tie.Need-add-i Inv-loop μ-loop
-add-i c = omega (arith, c .before .before .before .loop-test .taken, c .before .before .before .before .before .before .pre .inside)
+add-i c = omega (arith, c .before .before .before .loop-test .taken, c .before .before .before .before .before .before .before .before .pre .inside .0)
 
 loop-less : tie.Need-loop-less Inv-loop μ-loop
 loop-less c = omega (arith, c .before .before .before .loop-test .taken)
@@ -64,21 +64,23 @@ loop-less c = omega (arith, c .before .before .before .loop-test .taken)
 loop-again : tie.Need-loop-again Inv-loop μ-loop
 loop-again c =
     let l = c .before .before .before .before .loop in
-    let s = c .before .before .before .before .before .before in
+    let s = c .before .before .before .before .before .before .before .before in
     let it = c .before .before .pick .ensures in
     turned-next (s .args .n) (want s) (items s) (now (s .args .frozen)) (now (s .args .targets)) (l .frozen) (l .targets) (l .i) (l .inv) (c .before .before .before .loop-test .taken) (s .pre .marks) (s .pre .room) (c .before .is-inflexible .result) (c .hypothetical-size .result)
     (ap₂ (λ (m : Bool) (x : Float). put (items s (l .i)) m x) (c .before .is-inflexible .ensures ∙ ap (λ (y : Item). inflexible (s .args .growing) y) it) (c .hypothetical-size .ensures ∙ ap (λ (y : Item). hypothetical y) it))
 
 same-length : tie.Need-same-length Inv-loop μ-loop
-same-length c = c .before .loop .inv .long
+same-length c = c .before .loop .inv .marks
+
+same-length-2 : tie.Need-same-length-2 Inv-loop μ-loop
+same-length-2 c = c .before .loop .inv .long
 
 returns : tie.Need-returns Inv-loop μ-loop
 returns c =
     let l = c .before .loop in
-    let s = c .before .before .before in
+    let s = c .before .before .before .before .before in
     record {
       cells-are = turned-all (s .args .n) (want s) (items s) (now (s .args .frozen)) (now (s .args .targets)) (l .frozen) (l .targets) (l .i) (l .inv) (c .loop-test .left) ∙ sym (map-each (first (s .args .growing)) (s .args .n) (items s));
-      marks-long = l .inv .marks;
       kept = λ k h. l .inv .rest k (le-trans (l .inv .inside) h);
     }
 
@@ -92,7 +94,7 @@ begin-spec =
     add-pick
     pick-requires
     is-inflexible-requires
-    element-write-frozen
+    slice-write-frozen
     hypothetical-size-requires
     mul-targets
     slice-write-targets
@@ -100,4 +102,5 @@ begin-spec =
     loop-less
     loop-again
     same-length
+    same-length-2
     returns)

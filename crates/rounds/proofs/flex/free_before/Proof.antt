@@ -22,7 +22,7 @@ use Rattle.rounds.proofs.flex.free_before.Tie as tie
 use Rattle.rounds.proofs.flex.free_before.Reads as reads
 use Rattle.rounds.proofs.flex.free_before.Lts as lts
 use Rattle.rounds.proofs.flex.hypothetical_sum.Reads as hypothetical-sum-reads
-use Rattle.flexing.proofs.sizes.gaps_of.Reads as gaps-of-reads
+use Rattle.flexing.proofs.sharing.gaps_of.Reads as gaps-of-reads
 use mathlib.Core.List.{List}
 
 -- the items that the function is called with
@@ -34,7 +34,7 @@ used-is : (s : tie.Start) (x y : Float) → x ≡ gaps (s .args .gap) (s .args .
     → Length (x ⊕ y) × (sixtyFourths (x ⊕ y) ≡ usedUnits (s .args .gap) (items s))
 used-is s x y p q =
     let n = length-each (s .args .n) (λ i. itemIn (now (s .args .table)) (s .args .from + i)) in
-    let r = used-length (s .args .inner) (s .args .gap) (items s) (omega (arith, n, s .pre .0)) (s .pre .1) in
+    let r = used-length (s .args .inner) (s .args .gap) (items s) (omega (arith, n, s .pre .0 .0)) (s .pre .1) in
     let e : x ⊕ y ≡ gaps (s .args .gap) (length (items s)) ⊕ total (λ it. outer it (hypothetical it)) (items s) = ap₂ (λ (a b : Float). a ⊕ b) (p ∙ ap (λ (k : ℕ). gaps (s .args .gap) k) (sym n)) q in
     (subst (λ (z : Float). Length z) (sym e) (r .0), ap sixtyFourths e ∙ r .1)
 
@@ -48,7 +48,7 @@ to-sixtyfourths-requires : tie.Need-to-sixtyfourths-requires
 to-sixtyfourths-requires c κs = search needs
 
 to-sixtyfourths-requires-2 : tie.Need-to-sixtyfourths-requires-2
-to-sixtyfourths-requires-2 c κs = let h = c .before in used-is (h .before .before) (h .before .gaps-of .result) (h .hypothetical-sum .result) (h .before .gaps-of .ensures) (h .hypothetical-sum .ensures) .0
+to-sixtyfourths-requires-2 c κs = let h = c .before in used-is (h .before .before .before) (h .before .gaps-of .result) (h .hypothetical-sum .result) (h .before .gaps-of .ensures) (h .hypothetical-sum .ensures) .0
 
 abbrev bits : ℤ → ℤ
 bits z = toZ w32 (ofZ w32 z)
@@ -60,7 +60,7 @@ abbrev b-of : tie.After-struct-told2 → ℤ
 b-of c = c .before .before .before .before .to-sixtyfourths2 .result .0
 
 abbrev began : tie.After-struct-told2 → tie.Start
-began c = c .before .before .before .before .before .before .before .before
+began c = c .before .before .before .before .before .before .before .before .before
 
 both : (c : tie.After-struct-told2) → SFits w32 (bits (a-of c) -ℤ bits (b-of c)) × (bits (bits (a-of c) -ℤ bits (b-of c)) ≡ freeBefore (began c .args .inner) (began c .args .gap) (items (began c)))
 both c =

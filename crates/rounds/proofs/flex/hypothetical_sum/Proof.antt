@@ -26,13 +26,13 @@ abbrev μ-loop : tie.MeasureT-loop
 μ-loop table from n s₀ i₀ s i = n - i
 
 loop-holds : tie.Need-loop-holds Inv-loop μ-loop
-loop-holds c = (zero-le, sym (total-none (λ it. outer it (hypothetical it)) (λ k. itemIn (now (c .args .table)) (c .args .from + k))))
+loop-holds c = (zero-le, sym (total-none (λ it. outer it (hypothetical it)) (λ k. itemIn (now (c .before .args .table)) (c .before .args .from + k))))
 
 add-pick : tie.Need-add-pick Inv-loop μ-loop
-add-pick c = omega (arith, c .loop-test .taken, c .before .before .pre)
+add-pick c = omega (arith, c .loop-test .taken, c .before .before .before .pre .0)
 
 pick-requires : tie.Need-pick-requires Inv-loop μ-loop
-pick-requires c κs = omega (arith, c .loop-test .taken, c .before .before .pre)
+pick-requires c κs = let p = c .before .before .before .pre in (omega (arith, c .loop-test .taken, p .0), omega (arith, c .loop-test .taken, p .1))
 
 hypothetical-size-requires : tie.Need-hypothetical-size-requires Inv-loop μ-loop
 hypothetical-size-requires c κs = search needs
@@ -41,7 +41,7 @@ outer-size-requires : tie.Need-outer-size-requires Inv-loop μ-loop
 outer-size-requires c κs = search needs
 
 add-i : tie.Need-add-i Inv-loop μ-loop
-add-i c = omega (arith, c .before .before .before .loop-test .taken, c .before .before .before .before .before .pre)
+add-i c = omega (arith, c .before .before .before .loop-test .taken, c .before .before .before .before .before .before .pre .0)
 
 loop-less : tie.Need-loop-less Inv-loop μ-loop
 loop-less c = omega (arith, c .before .before .before .loop-test .taken)
@@ -49,7 +49,7 @@ loop-less c = omega (arith, c .before .before .before .loop-test .taken)
 loop-again : tie.Need-loop-again Inv-loop μ-loop
 loop-again c =
     let l = c .before .before .before .before .loop in
-    let s = c .before .before .before .before .before in
+    let s = c .before .before .before .before .before .before in
     let it = c .before .before .pick .ensures in (
       omega (arith, c .before .before .before .loop-test .taken),
       sum-turn (λ it. outer it (hypothetical it)) (λ k. itemIn (now (s .args .table)) (s .args .from + k)) (l .i) (l .s) (c .outer-size .result) (l .inv .1)
@@ -59,7 +59,7 @@ loop-again c =
 returns : tie.Need-returns Inv-loop μ-loop
 returns c =
     let l = c .before .loop in
-    let s = c .before .before in
+    let s = c .before .before .before in
     subst (λ (k : ℕ). l .s ≡ total (λ it. outer it (hypothetical it)) (each k (λ k. itemIn (now (s .args .table)) (s .args .from + k)))) (le-antisymm (l .inv .0) (c .loop-test .left)) (l .inv .1)
 
 pub hypothetical-sum-spec : {M : Type 1} → statement M

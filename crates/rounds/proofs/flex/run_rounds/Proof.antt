@@ -6,65 +6,80 @@ use native.Mathlib.Omega.{arith}
 use denote.Ref.{now}
 use Rattle.flexing.specs.Flex.{unfrozen}
 use Rattle.rounds.specs.Cells.{cellsOf}
+use Rattle.flexing.specs.Steps.{Summed}
 use Rattle.rounds.proofs.Loop.{Running, running-none, running-next, running-few, running-done, running-less}
 use Rattle.rounds.proofs.flex.run_rounds.Statement.{statement}
 use Rattle.rounds.proofs.flex.run_rounds.Tie as tie
 use Rattle.rounds.proofs.flex.run_rounds.Reads as reads
 use Rattle.rounds.proofs.flex.run_rounds.Lts as lts
-use Rattle.rounds.proofs.flex.count_left.Reads as count-left-reads
 use Rattle.rounds.proofs.rounds.one_round.Reads as one-round-reads
+use Rattle.rounds.proofs.rounds.sum_up.Reads as sum-up-reads
 
 abbrev Inv-loop : tie.InvT-loop
-Inv-loop table from n ln frozen₀ targets₀ rounds₀ frozen targets rounds = Running table from n ln frozen₀ targets₀ frozen targets rounds
+Inv-loop table from n ln frozen₀ targets₀ s₀ rounds₀ frozen targets s rounds = Running table from n ln frozen₀ targets₀ frozen targets rounds × Summed (ln .growing) (cellsOf table from n frozen targets) s
 
 abbrev μ-loop : tie.MeasureT-loop
-μ-loop table from n ln frozen₀ targets₀ rounds₀ frozen targets rounds = unfrozen (cellsOf table from n frozen targets)
-
--- a turn's own place: where it began, what the loop kept, and that an item is unfrozen
-abbrev began : tie.After-slice-known2 Inv-loop μ-loop → tie.Start Inv-loop μ-loop
-began c = c .before .before .before .before .before .before .before .before .before .before
-
-some : (c : tie.After-slice-known2 Inv-loop μ-loop) → 0 < unfrozen (cellsOf (now (began c .args .table)) (began c .args .from) (began c .args .n) (c .before .before .before .before .before .before .before .before .loop .frozen) (c .before .before .before .before .before .before .before .before .loop .targets))
-some c = subst (λ (n : ℕ). 0 < n) (c .before .before .before .before .before .before .count-left .ensures (now (began c .args .table)) (began c .args .from) (c .before .before .before .before .before .before .before .before .loop .targets)) (c .before .before .before .before .before .if1 .taken)
+μ-loop table from n ln frozen₀ targets₀ s₀ rounds₀ frozen targets s rounds = unfrozen (cellsOf table from n frozen targets)
 
 loop-holds : tie.Need-loop-holds Inv-loop μ-loop
-loop-holds c = let s = c .before in running-none (now (s .args .table)) (s .args .from) (s .args .n) (s .args .ln) (now (s .args .frozen)) (now (s .args .targets))
-
-count-left-requires : tie.Need-count-left-requires Inv-loop μ-loop
-count-left-requires c κs = omega (arith, c .before .before .before .pre .inside)
+loop-holds c = let s = c .before .before .before in (running-none (now (s .args .table)) (s .args .from) (s .args .n) (s .args .ln) (now (s .args .frozen)) (now (s .args .targets)), s .pre .1)
 
 one-round-requires : tie.Need-one-round-requires Inv-loop μ-loop
 one-round-requires c κs =
-    let l = c .before .before .before .before .before .loop in
-    let p = c .before .before .before .before .before .before .before .pre in
-    record { inside = p .inside; marks = omega (arith, l .inv .marks, p .marks); room = omega (arith, l .inv .long, p .room) }
+    let l = c .before .before .before .before .loop in
+    let p = c .before .before .before .before .before .before .before .before .pre .0 in
+    (record { inside = p .inside; marks = omega (arith, l .inv .0 .marks, p .marks); room = omega (arith, l .inv .0 .long, p .room) }, l .inv .1)
+
+sum-up-requires : tie.Need-sum-up-requires Inv-loop μ-loop
+sum-up-requires c κs =
+    let r = c .before .before .before .before .before .before .one-round .kept in
+    let l = c .before .before .before .before .before .before .before .before .before .before .before .loop in
+    let p = c .before .before .before .before .before .before .before .before .before .before .before .before .before .before .before .pre .0 in
+    record { inside = p .inside; marks = omega (arith, r .1 .1 .1 .1 .1 .0, l .inv .0 .marks, p .marks); room = omega (arith, r .1 .1 .1 .1 .1 .1 .0, l .inv .0 .long, p .room) }
+
+-- a turn's end: where the function began, what the loop kept, the round, and that an item was unfrozen before it
+abbrev began : tie.After-sum-up Inv-loop μ-loop → tie.Start Inv-loop μ-loop
+began c = c .before .before .before .before .before .before .before .before .before .before .before .before .before .before .before .before
+
+abbrev kept : tie.After-sum-up Inv-loop μ-loop → tie.At-loop Inv-loop μ-loop
+kept c = c .before .before .before .before .before .before .before .before .before .before .before .before
+
+abbrev turned : tie.After-sum-up Inv-loop μ-loop → tie.After-one-round Inv-loop μ-loop
+turned c = c .before .before .before .before .before .before .before
+
+some : (c : tie.After-sum-up Inv-loop μ-loop) → 0 < unfrozen (cellsOf (now (began c .args .table)) (began c .args .from) (began c .args .n) (kept c .loop .frozen) (kept c .loop .targets))
+some c = subst (λ (n : ℕ). 0 < n) (kept c .loop .inv .1 .number) (c .before .before .before .before .before .before .before .before .before .before .if1 .taken)
 
 add-rounds : tie.Need-add-rounds Inv-loop μ-loop
 add-rounds c =
-    let l = c .before .before .before .before .before .before .before .before .loop in
+    let l = kept c .loop in
     let s = began c in
-    omega (arith, running-few (now (s .args .table)) (s .args .from) (s .args .n) (s .args .ln) (now (s .args .frozen)) (now (s .args .targets)) (l .frozen) (l .targets) (l .rounds) (l .inv), s .pre .inside)
+    omega (arith, running-few (now (s .args .table)) (s .args .from) (s .args .n) (s .args .ln) (now (s .args .frozen)) (now (s .args .targets)) (l .frozen) (l .targets) (l .rounds) (l .inv .0), s .pre .0 .inside .0)
 
 loop-less : tie.Need-loop-less Inv-loop μ-loop
 loop-less c =
-    let l = c .before .before .before .before .before .before .before .before .loop in
+    let l = kept c .loop in
     let s = began c in
-    running-less (now (s .args .table)) (s .args .from) (s .args .n) (s .args .ln) (l .frozen) (l .targets) _ _ (some c) (c .before .before .one-round .ensures)
+    running-less (now (s .args .table)) (s .args .from) (s .args .n) (s .args .ln) (l .frozen) (l .targets) _ _ (some c) (turned c .one-round .ensures)
 
 loop-again : tie.Need-loop-again Inv-loop μ-loop
 loop-again c =
-    let l = c .before .before .before .before .before .before .before .before .loop in
+    let l = kept c .loop in
     let s = began c in
-    running-next (now (s .args .table)) (s .args .from) (s .args .n) (s .args .ln) (now (s .args .frozen)) (now (s .args .targets)) (l .frozen) (l .targets) (l .rounds) (l .inv) _ _ (some c) (c .before .before .one-round .kept .1 .1 .1 .1 .1 .0) (c .before .before .one-round .ensures)
+    let r = turned c .one-round in
+    (running-next (now (s .args .table)) (s .args .from) (s .args .n) (s .args .ln) (now (s .args .frozen)) (now (s .args .targets)) (l .frozen) (l .targets) (l .rounds) (l .inv .0) _ _ (some c) (r .kept .1 .1 .1 .1 .1 .0) (r .kept .1 .1 .1 .1 .1 .1 .0) (r .ensures), c .sum-up .ensures)
 
 same-length : tie.Need-same-length Inv-loop μ-loop
-same-length c = c .before .before .before .loop .inv .long
+same-length c = c .before .before .loop .inv .0 .marks
+
+same-length-2 : tie.Need-same-length-2 Inv-loop μ-loop
+same-length-2 c = c .before .before .loop .inv .0 .long
 
 returns : tie.Need-returns Inv-loop μ-loop
 returns c =
-    let l = c .before .before .before .loop in
-    let s = c .before .before .before .before .before in
-    running-done (now (s .args .table)) (s .args .from) (s .args .n) (s .args .ln) (now (s .args .frozen)) (now (s .args .targets)) (l .frozen) (l .targets) (l .rounds) (l .inv) (le-antisymm zero-le (c .if1 .left) ∙ c .before .count-left .ensures (now (s .args .table)) (s .args .from) (l .targets))
+    let l = c .before .before .loop in
+    let s = c .before .before .before .before .before .before in
+    running-done (now (s .args .table)) (s .args .from) (s .args .n) (s .args .ln) (now (s .args .frozen)) (now (s .args .targets)) (l .frozen) (l .targets) (l .rounds) (l .inv .0) (le-antisymm zero-le (c .if1 .left) ∙ l .inv .1 .number)
 
 pub run-rounds-spec : {M : Type 1} → statement M
 run-rounds-spec =
@@ -73,10 +88,11 @@ run-rounds-spec =
     Inv-loop
     μ-loop
     loop-holds
-    count-left-requires
     one-round-requires
+    sum-up-requires
     add-rounds
     loop-less
     loop-again
     same-length
+    same-length-2
     returns)

@@ -1,0 +1,68 @@
+-- A call that checks 1 to 5 have passed is read, and flexed. Assumes nothing.
+use mathlib.Core.Path.{sym, subst}
+use lib.Ieee.{Float}
+use native.Mathlib.Omega.{arith}
+use denote.Ref.{now}
+use Rattle.grid.specs.Grid.{Length}
+use Rattle.flexing.specs.Items.{Lists, lists}
+use Rattle.flexchecks.proofs.Accept.{inner-length, gap-length, measured-of}
+use Rattle.flexcalls.proofs.OneLine.{answered-as}
+use Rattle.rounds.proofs.Columns.{tabled-of, items-are}
+use borrow.Author.Needs.{needs}
+use Rattle.flexcalls.proofs.flex_in.Statement.{statement}
+use Rattle.flexcalls.proofs.flex_in.Tie as tie
+use Rattle.flexcalls.proofs.flex_in.Reads as reads
+use Rattle.flexcalls.proofs.flex_in.Lts as lts
+use Rattle.flexcalls.proofs.flex_read.Reads as flex-read-reads
+use Rattle.rounds.proofs.table.read_items.Reads as read-items-reads
+use Rattle.grid.proofs.clean.Reads as clean-reads
+
+-- the lists that the function is called with
+abbrev given : tie.Start → Lists
+given s = lists (now (s .args .base)) (now (s .args .minimum)) (now (s .args .maximum)) (now (s .args .has-maximum)) (now (s .args .edges)) (now (s .args .grow)) (now (s .args .shrink)) (now (s .args .start)) (now (s .args .end)) (now (s .args .auto-start)) (now (s .args .auto-end))
+
+read-items-requires : tie.Need-read-items-requires
+read-items-requires c κs = search needs
+
+clean-requires : tie.Need-clean-requires
+clean-requires c κs = search needs
+
+clean-requires-2 : tie.Need-clean-requires-2
+clean-requires-2 c κs = search needs
+
+flex-read-requires : tie.Need-flex-read-requires
+flex-read-requires c κs =
+    let s = c .before .before .before .before .before .before .before .before .before .before .before .before .before .before .before .before .before .before .before .before .before in
+    let t = c .before .before .before .before .before .before .read-items in
+    let p = s .pre .0 in (
+      (p .even .few, omega (arith, s .pre .1, t .kept .1 .1 .1 .1 .1 .1 .1 .1 .1 .1 .1 .0)),
+      p .room,
+      subst (λ (x : Float). Length x) (sym (c .before .before .clean .ensures)) (inner-length (s .args .inner) (s .args .gap) (given s) (p .sound)),
+      subst (λ (x : Float). Length x) (sym (c .before .clean2 .ensures)) (gap-length (s .args .inner) (s .args .gap) (given s) (p .sound)),
+      tabled-of (given s) (t .last .1 .1 .1 .1 .1 .1 .1 .1 .1 .1 .1 .0) (t .ensures .0) (measured-of (s .args .inner) (s .args .gap) (given s) (p .sound)),
+    )
+
+same-length : tie.Need-same-length
+same-length c = search needs
+
+same-length-2 : tie.Need-same-length-2
+same-length-2 c = search needs
+
+returns : tie.Need-returns
+returns c =
+    let s = c .before .before .before .before .before .before .before .before .before .before .before .before .before .before .before .before .before .before .before .before .before .before .before .before in
+    let t = c .before .before .before .before .before .before .before .before .before .read-items in
+    let f = c .before .before .flex-read in
+    answered-as _ _ _ _ _ _ (c .before .before .before .before .before .clean .ensures) (c .before .before .before .before .clean2 .ensures) (items-are (given s) (t .last .1 .1 .1 .1 .1 .1 .1 .1 .1 .1 .1 .0) (t .ensures .0)) (f .result) (now (s .args .targets)) (f .last .1 .1 .1 .1 .0) (f .ensures)
+
+pub flex-in-spec : {M : Type 1} → statement M
+flex-in-spec =
+    tie.close
+    (tie.spec
+    read-items-requires
+    clean-requires
+    clean-requires-2
+    flex-read-requires
+    same-length
+    same-length-2
+    returns)

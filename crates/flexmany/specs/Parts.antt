@@ -1,0 +1,21 @@
+-- What the contracts of functions that are no entry points cite of a call: what checks 1 to 5 show. Definitions only. Assumes nothing.
+use mathlib.Core.Path.{_≡_}
+use mathlib.Core.List.{List}
+use Prim.Native.Nat.{ℕ, _≤_, _<_}
+use lib.ListN.{length, getD}
+use lib.IntN.{ℤ}
+use lib.Ieee.{Float}
+use Rattle.refusal.specs.Marks.{Sound}
+use Rattle.flexing.specs.Items.{Lists, count}
+use Rattle.flexing.specs.Accepted.{Even}
+use Rattle.flexlines.specs.Lines.{lineStart}
+use Rattle.flexchecks.specs.Input.{inputOf}
+
+pub record CheckedLines (inner gap : Float) (counts : List ℕ) (ls : Lists) (targets : List Float) (free : List ℤ) (rounds : List ℕ) : Type 0 where
+  pub even : Even ls
+  pub sound : Sound (inputOf inner gap ls)
+  pub whole : lineStart counts (length counts) ≡ count ls
+  pub positive : (j : ℕ) → j < length counts → 0 < getD counts j 0
+  pub room : count ls ≤ length targets
+  pub free-room : count ls ≤ length free
+  pub rounds-room : count ls ≤ length rounds

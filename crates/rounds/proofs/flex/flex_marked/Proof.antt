@@ -1,0 +1,80 @@
+-- Flexing a line with lent marks: its parts, put together, are the definition's steps. Assumes nothing.
+use mathlib.Core.Path.{ap, _∙_}
+use native.Mathlib.Omega.{arith}
+use lib.IntN.{ℤ, pos}
+use lib.Signed.{ltZ}
+use denote.Ref.{now}
+use Rattle.rounds.proofs.Finish.{finish}
+use borrow.Author.Needs.{needs}
+use Rattle.rounds.proofs.flex.flex_marked.Statement.{statement}
+use Rattle.rounds.proofs.flex.flex_marked.Tie as tie
+use Rattle.rounds.proofs.flex.flex_marked.Reads as reads
+use Rattle.rounds.proofs.flex.flex_marked.Lts as lts
+use Rattle.rounds.proofs.flex.begin.Reads as begin-reads
+use Rattle.rounds.proofs.flex.free_before.Reads as free-before-reads
+use Rattle.flexing.proofs.sharing.is_growing.Reads as is-growing-reads
+use Rattle.rounds.proofs.flex.run_rounds.Reads as run-rounds-reads
+use Rattle.rounds.proofs.flex.tidy.Reads as tidy-reads
+use Rattle.flexing.proofs.sharing.space_left.Reads as space-left-reads
+use Rattle.rounds.proofs.rounds.sum_up.Reads as sum-up-reads
+
+free-before-requires : tie.Need-free-before-requires
+free-before-requires c κs = search needs
+
+is-growing-requires : tie.Need-is-growing-requires
+is-growing-requires c κs = search needs
+
+begin-requires : tie.Need-begin-requires
+begin-requires c κs = search needs
+
+sum-up-requires : tie.Need-sum-up-requires
+sum-up-requires c κs = search needs
+
+space-left-requires : tie.Need-space-left-requires
+space-left-requires c κs = search needs
+
+run-rounds-requires : tie.Need-run-rounds-requires
+run-rounds-requires c κs =
+    let b = c .before .before .before .before .before .before .before .before .before .before .begin .kept in
+    let p = c .before .before .before .before .before .before .before .before .before .before .before .before .before .before .before .before .before .before .pre .0 in
+    (record { inside = p .inside; marks = omega (arith, b .1 .1 .1 .1 .0, p .marks); room = omega (arith, b .1 .1 .1 .1 .1 .0, p .room) }, c .before .before .before .sum-up .ensures)
+
+tidy-requires : tie.Need-tidy-requires
+tidy-requires c κs =
+    let r = c .before .before .before .before .before in
+    let b = r .before .before .before .before .before .before .before .before .before .before .before in
+    omega (arith, r .run-rounds .kept .1 .1 .1 .1 .1 .1 .0, b .begin .kept .1 .1 .1 .1 .1 .0, b .before .before .before .before .before .before .before .before .pre .0 .room)
+
+same-length : tie.Need-same-length
+same-length c = search needs
+
+same-length-2 : tie.Need-same-length-2
+same-length-2 c = search needs
+
+returns : tie.Need-returns
+returns c =
+    let y = c .before .before in
+    let r = y .before .before .before .before .before .before in
+    let u = r .before .before .before .before in
+    let b = u .before .before .before .before .before .before .before in
+    let f = b .before .before .before .before in
+    let s = f .before .before .before .before in
+    finish (now (s .args .table)) (s .args .from) (s .args .n) (s .args .inner) (s .args .gap) (f .free-before .result .0) (b .before .before .before .is-growing .result) (now (s .args .targets))
+    (b .begin .last .1 .1 .1 .1 .0) (b .begin .last .1 .1 .1 .1 .1 .0) (u .sum-up .result) (r .before .before .before .space-left .result) (r .run-rounds .result) (r .run-rounds .last .1 .1 .1 .1 .1 .0) (r .run-rounds .last .1 .1 .1 .1 .1 .1 .0) (y .tidy .last .0)
+    (f .free-before .ensures) (b .before .before .before .is-growing .ensures ∙ ap (λ (z : ℤ). ltZ (pos 0) z) (f .free-before .ensures)) (b .begin .ensures) (u .sum-up .ensures) (r .before .before .before .space-left .ensures) (r .run-rounds .ensures) (y .tidy .ensures .0) (y .tidy .ensures .1) (s .pre .0 .room)
+    (y .tidy .kept .0 ∙ r .run-rounds .kept .1 .1 .1 .1 .1 .1 .0 ∙ b .begin .kept .1 .1 .1 .1 .1 .0)
+
+pub flex-marked-spec : {M : Type 1} → statement M
+flex-marked-spec =
+    tie.close
+    (tie.spec
+    free-before-requires
+    is-growing-requires
+    begin-requires
+    sum-up-requires
+    space-left-requires
+    run-rounds-requires
+    tidy-requires
+    same-length
+    same-length-2
+    returns)
