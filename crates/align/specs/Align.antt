@@ -66,7 +66,7 @@ madeSafe free (Spread d) = resolved.Spread d
 
 -- ---- the offsets
 
--- "start 0, end free, center free/2; flex-start 0, or free if reversed; flex-end the other"
+-- "start, .. 0, end free, center free/2; flex-start 0, or free if reversed; flex-end the other"
 unfoldable pub positioned : Float → Bool → Position → Float
 positioned free reversed Start = nought
 positioned free reversed End = free
@@ -74,7 +74,7 @@ positioned free reversed FlexStart = cond reversed free nought
 positioned free reversed FlexEnd = cond reversed nought free
 positioned free reversed Center = free ⊘ two
 
--- the first: "stretch and space-between 0; space-around free/n/2; space-evenly free/(n+1)"
+-- "First: .. stretch and space-between 0, .. space-around free/n/2; space-evenly free/(n+1)"
 unfoldable pub firstOffset : Float → ℕ → Bool → Resolved → Float
 firstOffset free n reversed (At p) = positioned free reversed p
 firstOffset free n reversed (resolved.Spread Stretch) = nought

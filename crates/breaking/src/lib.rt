@@ -192,7 +192,7 @@ pub fn break_limit(q: Query) -> BreakLimit
     }
 }
 
-// Whether a line of several items, of this size, fits. Both breakers take it from here, once the limit has passed the checks: no entry point.
+// Whether a line of several items, of this size, fits: greedy breaking asks it once the limit has passed the checks. No entry point.
 pub fn line_fits(limit: AvailableSpace, size: f32) -> bool
     requires { ⌜ LengthLimit limit ⌝ }
     ensures { λ r. ⌜ ((z : ℤ) → At 64 size z → r ≡ fits (limitOf limit) z) ⌝ }

@@ -36,7 +36,7 @@ usedSize line it stretched = cond stretched (clamp it (line ⊖ margins it)) (hy
 unfoldable pub freeSpace : Float → CrossItem → Float → Float
 freeSpace line it size = line ⊖ (size ⊕ margins it)
 
--- "Auto margins take all free cross space, halved between two, negative free included"
+-- "Auto margins take all free cross space .., halved between two, negative free included"
 unfoldable pub autoMargin : Float → CrossItem → Float
 autoMargin free it = cond (it .«auto_start» && it .«auto_end») (free ⊘ two) free
 

@@ -1,4 +1,4 @@
-// Lines along the cross axis by `align-content` (CSS-FLEX 9.4, steps 8 and 9, and 9.6).
+// Lines along the cross axis by `align-content` (CSS-FLEX 9.4, step 9, and 9.6).
 ghost use mathlib.Core.Path.{_≡_};
 ghost use Prim.Native.Nat.{_≤_};
 ghost use lib.ListN.{length};

@@ -38,10 +38,10 @@ shareOf ln n s = record { growing = ln .growing; free = limited (ln .initial) (s
 
 -- ---- a round in two passes, so that a flexed size, which takes a division, is worked out once
 
--- steps 4c and 4d: an unfrozen item at its flexed size
+-- step 4c: an unfrozen item at its flexed size
 abbrev pub sized : Share → Cell → Cell
 sized sh c = record { item = c .item; frozen = c .frozen; target = cond (c .frozen) (c .target) (flexed sh (c .item)) }
 
--- step 4e: the size that stands there is clamped, and the item frozen or not
+-- steps 4d and 4e: the size that stands there is clamped, and the item frozen or not
 abbrev pub settled : Float → Cell → Cell
 settled sum c = cond (c .frozen) c (record { item = c .item; frozen = freezes sum (clamp (c .item) (c .target) ⊖ c .target); target = clamp (c .item) (c .target) })

@@ -30,7 +30,7 @@ limitOf zero limit = Definite limit
 limitOf (suc zero) limit = MinContent
 limitOf (suc (suc n)) limit = MaxContent
 
--- "Kind 1, 11 bytes: limit kind, limit f32, gap f32, minimum u16"
+-- "Kind 1, 11 bytes: limit kind .., limit f32, gap f32, minimum u16"
 abbrev pub headOf : List ℕ → Head
 headOf bytes = record { limit = limitOf (getD bytes 1 0) (float bytes 2); gap = float bytes 6; minimum = half bytes 10 }
 

@@ -1,5 +1,5 @@
--- What crosses to C: numbers, slices and plain structs. An answer's four values, codes for what is an enum inside, and each exported call as
--- the call inside it. Assumes nothing.
+-- What crosses to C: numbers, slices and plain structs. Codes for what is an enum inside, and each exported call as the call inside it. Assumes
+-- nothing.
 use mathlib.Core.Path.{_≡_}
 use mathlib.Core.Bool.{Bool, true, false}
 use mathlib.Core.List.{List, [], _∷_}
@@ -31,7 +31,7 @@ use Rattle.crossing.specs.declared.CAnswer.{CAnswer}
 use Rattle.crossing.specs.Crossing.{crossed, cAnswer}
 use Rattle.fratolivem.specs.declared.CLimit.{CLimit}
 
--- "another kind is refusal 5 at the container": the kind is a code of the container, one of 0 to 2
+-- the kind is a code of the container, one of 0 to 2, so that another is refusal 5 there
 abbrev pub kindNumber : ℕ → List Number
 kindNumber kind = code 2 kind ∷ []
 

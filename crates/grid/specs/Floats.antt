@@ -1,4 +1,4 @@
--- What the definitions of flexing and placing are written in: f32 operations, "each operation rounded once", and lists by item. Assumes nothing.
+-- What the definitions of the break limit, flexing and placing are written in: f32 operations, "each operation rounded once", and lists by item. Assumes nothing.
 use mathlib.Core.Bool.{cond}
 use mathlib.Core.List.{List, [], _∷_, _++_}
 use Prim.Native.Nat.{ℕ, zero, suc}

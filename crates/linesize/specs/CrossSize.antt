@@ -97,8 +97,8 @@ largest f (suc n) = raised (largest f n) (f n)
 abbrev pub largestOuter : Items → Float
 largestOuter ls = largest (λ i. outerSize (itemAt ls i)) (count ls)
 
--- "Line size is the inner cross size for a single-line definite container, else the largest outer cross size and zero, clamped by the container's
--- inner cross bounds if single-line"
+-- "Line size is the inner cross size for a single-line definite container, else the largest outer cross size .. and zero, clamped by the
+-- container's inner cross bounds if single-line"
 unfoldable pub lineSize : Cross → Float → Float
 lineSize c x = cleaned (cond (isSingleLine (c .wrap)) (orBounded c (innerSize c) x) x)
 

@@ -1,4 +1,4 @@
-// The cross size of a line from its items (CSS-FLEX 9.4, step 7).
+// The cross size of a line from its items (CSS-FLEX 9.4, step 8).
 ghost use mathlib.Core.Path.{_≡_};
 ghost use Prim.Native.Nat.{_<_};
 ghost use lib.ListN.{length};

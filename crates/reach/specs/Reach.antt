@@ -14,7 +14,7 @@ use Rattle.flexing.specs.declared.Item.{Item}
 use Rattle.grid.specs.Floats.{nought}
 use Rattle.flexing.specs.Flex.{outerSum}
 
--- "Gaps, padding plus border, minima, maxima, flex bases and inner sizes are at least 0"; lengths "have magnitude at most 262,144 px"
+-- "Gaps, padding plus border .., minima, maxima, flex bases, .. and inner sizes are at least 0"; lengths "have magnitude at most 262,144 px"
 pub record IsSize (x : Float) : Type 0 where
   pub grid : T (onGrid x)
   pub small : T (within 262144 x)

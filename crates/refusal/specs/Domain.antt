@@ -38,8 +38,8 @@ gridded Worked = false
 abbrev pub notBelow0 : Float → Bool
 notBelow0 x = le (ofBits binary32 0) x
 
--- "Lengths have magnitude at most 262,144 px, margins 131,072. Gaps, .. are at least 0. Grow and shrink lie in 0 to 1,024. Worked-out
--- targets and line sizes need only be .. at most 16,777,216 px in magnitude."
+-- "Lengths, .. have magnitude at most 262,144 px, margins 131,072. Gaps, .. are at least 0. .. Grow and shrink lie in 0 to 1,024, any float. ..
+-- Worked-out targets and line sizes handed to a later step need only be finite (3) and at most 16,777,216 px in magnitude (5)."
 unfoldable pub inRange : Kind → Float → Bool
 inRange Length x = within 262144 x
 inRange Margin x = within 131072 x

@@ -1,5 +1,6 @@
 -- Marks: the first of checks 3, 4 and 5 that a number fails, and its place, in one number, so that the least mark is the refusal that comes
--- first. What the leaves' contracts cite; `judged-checked` of proofs/ says that it is document 01's order of checks. Assumes nothing.
+-- first. What the leaves' contracts cite; `judged-checked` of proofs/ says that it is document 01's order of checks. Beside them sums by index.
+-- Assumes nothing.
 use mathlib.Core.Path.{_≡_}
 use mathlib.Core.Bool.{true, false, cond}
 use mathlib.Core.List.{List, [], _∷_}

@@ -1,4 +1,4 @@
--- `division::clear_floats` meets its contract: every cell before i is 0 (Clearing.antt). Assumes nothing.
+-- `division::clear_floats` meets its contract: every cell before i is 0 (Clearing.antt of `counts`). Assumes nothing.
 use mathlib.Core.Path.{refl}
 use Prim.Native.Nat.{_-_}
 use native.Mathlib.Omega.{arith}

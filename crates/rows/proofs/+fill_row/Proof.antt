@@ -1,4 +1,4 @@
--- `rows::fill_row` meets its contract: by the length of the range of starts, which falls at each call: the middle start by its choice, the halves by the calls (`row-step` of Steps.antt). Assumes nothing.
+-- `rows::fill_row` meets its contract: by the length of the range of starts, which falls at each call: the middle start by its choice, the halves by the calls (`row-step` of Steps.antt in `choice`). Assumes nothing.
 use mathlib.Core.Path.{_≡_, ap, _∙_}
 use mathlib.Core.Logic.{⊎-elim}
 use Prim.Native.Nat.{ℕ, _+_, _-_, _/_, _<_}
