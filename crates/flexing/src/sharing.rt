@@ -1,4 +1,5 @@
-// A line by value: its gaps and the way it flexes, the sums of a round, and what they leave to share out.
+// A line by value: its gaps and the way it flexes, the sums of a round, and what they leave to share out. No entry points: they ask for at most 1,024
+// items.
 ghost use mathlib.Core.Path.{_≡_};
 ghost use Prim.Native.Nat.{_≤_};
 ghost use lib.IntN.{pos};
@@ -21,7 +22,6 @@ pub fn is_growing(free: grid::Sixtyfourths) -> bool
     free.0 > 0
 }
 
-// No entry point: it asks for at most 1,024 items.
 pub fn gaps_of(gap: f32, n: usize) -> f32
     requires { ⌜ n ≤ 1024 ⌝ }
     ensures { λ r. ⌜ r ≡ gaps gap n ⌝ }
@@ -80,6 +80,7 @@ fn limit(initial: f32, factors: f32, free: f32) -> f32
     free
 }
 
+// What a round shares out, from its sums.
 pub fn share_of(ln: Line, n: usize, s: Sums) -> Share
     requires { ⌜ n ≤ 1024 ⌝ }
     ensures { λ r. ⌜ r ≡ shareOf ln n s ⌝ }

@@ -141,8 +141,8 @@ fn flex_marked(
     }
 }
 
-// Flexes the n items at `from`, which the checks have accepted. The marks are of the frame, as few as serve: clearing them takes longer than flexing
-// a short line. No entry point: what it asks is what the checks show.
+// Flexes the n items at `from`, which the checks have accepted. The marks are of the frame, as few as serve, so that a short line clears few. No entry
+// point: what it asks is what the checks show.
 pub fn flex_items(
     table: &[f32],
     from: usize,
