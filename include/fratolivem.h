@@ -40,7 +40,7 @@ enum {
 enum {
     FRATOLIVEM_NOWHERE = 0,   /* nothing is refused; `place` is 0 */
     FRATOLIVEM_CONTAINER = 1, /* limit, gap, bounds, room or the list as a whole; `place` is 0 */
-    FRATOLIVEM_AT = 2         /* the item, line or byte `place`, counted from 0 */
+    FRATOLIVEM_AT = 2         /* the item or line `place`, counted from 0 */
 };
 
 /* Kinds of a limit or of available space. The number beside it is read only under DEFINITE, and not checked under another. */
@@ -347,8 +347,8 @@ enum { FRATOLIVEM_LINE_SIZE = 0, FRATOLIVEM_LINE_OFFSET = 1, FRATOLIVEM_LINE_LIS
 /* Breaks, flexes and places n items. Room: 8n cells of placed and 2n of lines; n counts, rounds and free, by line: item counts, rounds of
  * flexing, and free space before flexing in whole sixty-fourths, negative where the line is overfull. Cells by line are 0 past the last line.
  * BALANCE and BALANCE_REVERSE also ask for n*n + 3n cells of work and 3n of sums (fratolivem_work_cells, fratolivem_sum_cells), which are 0
- * after acceptance; else these two may be NULL and are not touched. All other cells are unchanged. It takes 165,000 bytes of
- * stack (give its thread 256 KB). Ranges and the sum of refusal 6 are those of fratolivem_flex_line. */
+ * after acceptance; else these two may be NULL and are not touched. All other cells are unchanged. It takes 163,840 bytes of
+ * stack (give its thread 256 KB; the calls that flex take 40,960). Ranges and the sum of refusal 6 are those of fratolivem_flex_line. */
 fratolivem_passed fratolivem_pass(fratolivem_container container, const fratolivem_item *items, size_t n, float *placed,
                                   size_t placed_len, float *lines, size_t lines_len, uint32_t *counts, size_t counts_len,
                                   uint32_t *rounds, size_t rounds_len, int32_t *free, size_t free_len, uint32_t *work,

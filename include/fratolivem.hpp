@@ -128,7 +128,8 @@ private:
 
 // ---- the whole pass
 
-// A container and an item, absent numbers and auto margins as none. The defaults are CSS's: a row that does not wrap, items that do not grow.
+// A container and an item, absent numbers and auto margins as none. The defaults are CSS's (a row that does not wrap, items that do not grow), but for
+// the minima, which are 0.
 struct container : fratolivem_container {
     container(float inner_main_px, float gap_main_px, space limit_px) : fratolivem_container() {
         inner_main = inner_main_px;
@@ -215,10 +216,11 @@ private:
     }
     void keep(const fratolivem_container &c, const passed &p, std::size_t n) {
         const auto of = [&](std::size_t list, std::size_t i) { return placed_[list * n + i]; };
-        frame_.items.resize(n);
+        // Both lists have their room before either is written: where there is no memory for it, the last frame stays whole.
+        frame_.items.reserve(n), frame_.lines.reserve(p.lines);
+        frame_.items.resize(n), frame_.lines.resize(p.lines);
         for (std::size_t i = 0; i < n; i++)
             frame_.items[i] = {of(0, i), of(1, i), of(2, i), of(3, i), of(4, i), of(5, i), of(6, i), of(7, i)};
-        frame_.lines.resize(p.lines);
         for (std::size_t j = 0; j < p.lines; j++)
             frame_.lines[j] = {counts_[j], free_[j], rounds_[j], lines_[j], lines_[n + j]};
         frame_.inner_cross = p.inner_cross;
