@@ -1,4 +1,4 @@
-// Cells and small numbers: what every stage of balanced breaking reads and writes with.
+// Cells and small numbers: what every stage of balanced breaking reads and writes with. No entry points.
 ghost use mathlib.Core.Path.{_≡_};
 ghost use Prim.Native.Nat.{_-_, _<_, min, max};
 ghost use lib.ListN.{length, getD};

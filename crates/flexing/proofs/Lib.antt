@@ -5,3 +5,4 @@ pub mod Units
 pub mod Determined
 pub mod Examples
 pub mod Sign
+pub mod InOrder
