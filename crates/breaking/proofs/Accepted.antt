@@ -2,7 +2,7 @@
 -- By the laws of refusals, part by part: codes, limit, gap, items. Assumes nothing.
 use mathlib.Core.Path.{_≡_, refl, sym, ap, ap₂, _∙_}
 use mathlib.Core.Bool.{Bool, true, false}
-use mathlib.Core.List.{List, [], _∷_, _++_, append-nil}
+use mathlib.Core.List.{List, [], _∷_, _++_}
 use Prim.Native.Nat.{ℕ, _+_, _-_, _≤_, min, zero-le}
 use native.Mathlib.Omega.{arith}
 use lib.Dec.{leb, ltb}
@@ -19,18 +19,13 @@ use Rattle.refusal.specs.Domain.{Number, float, code, notFinite, offGrid, outOf
 use Rattle.refusal.specs.Marks.{mark, leastOf, leastUpTo, leastMark, judged, Lengths, AllFine, Sound}
 use Rattle.refusal.proofs.Order.{least-ext}
 use Rattle.refusal.proofs.Checks.{judged-checked, least-append, least-one, then-passed, shape-passed, summed-passed, accepted, fine-append, fine-length, fine-size, fine-code}
-use Rattle.breaking.specs.declared.AvailableSpace.{AvailableSpace}
-use Rattle.breaking.specs.declared.AvailableSpace.the-variants.{Definite, MinContent, MaxContent}
-use Rattle.breaking.specs.declared.Query.{Query}
-use Rattle.breaking.specs.Limit.{spaceNumbers, boundNumbers, limitInput, limitVerdict}
+use Rattle.breaklimit.specs.declared.AvailableSpace.{AvailableSpace}
+use Rattle.breaklimit.specs.declared.AvailableSpace.the-variants.{Definite, MinContent, MaxContent}
+use Rattle.breaklimit.specs.Limit.{spaceNumbers}
 use Rattle.breaking.specs.Calls.{breakingInput, outerSum, breakingVerdict}
 use Rattle.breaking.specs.Steps.{LengthLimit, Breakable}
 
 -- ---- the marks are the checks
-
-then-last : (v : Verdict) → then v Passed ≡ v
-then-last Passed = refl
-then-last (Refused why) = refl
 
 -- where a check has refused or passed, what comes of the checks after it
 pub then-refused : {v : Verdict} (rest : Verdict) {why : Refusal} → v ≡ Refused why → then v rest ≡ v
@@ -38,24 +33,6 @@ then-refused rest e = ap (λ (v : Verdict). then v rest) e ∙ sym e
 
 pub then-rest : {v : Verdict} (rest : Verdict) → v ≡ Passed → then v rest ≡ rest
 then-rest rest e = ap (λ (v : Verdict). then v rest) e
-
-none-more : (l : List Number) → leastOf l 0 ≡ min (leastOf l 0) 6144
-unfolding leastOf
-none-more l = ap (λ (t : List Number). leastOf t 0) (sym (append-nil l)) ∙ least-append l [] 0
-
--- the mark of a query
-abbrev pub queryMark : Query → ℕ
-queryMark q = min (leastOf (spaceNumbers (q .available)) 0) (min (leastOf (boundNumbers (q .minimum)) 0) (leastOf (boundNumbers (q .maximum)) 0))
-
-pub query-checked : (codes : List Number) (q : Query) → judged (min (leastOf codes 0) (queryMark q)) ≡ limitVerdict codes q
-unfolding leastUpTo
-query-checked codes q =
-    let s = spaceNumbers (q .available) in
-    let a = boundNumbers (q .minimum) in
-    let b = boundNumbers (q .maximum) in
-    ap judged (sym (least-append codes (s ++ (a ++ b)) 0 ∙ ap (min (leastOf codes 0)) (least-append s (a ++ b) 0 ∙ ap (min (leastOf s 0)) (least-append a b 0))) ∙ none-more (codes ++ (s ++ (a ++ b))))
-    ∙ sym (then-last (judged (leastMark (limitInput codes q))))
-    ∙ judged-checked (limitInput codes q) zero-le Passed
 
 -- the mark of a breaking call: codes with this least mark, the limit and the gap, and then the items
 abbrev pub breakingMark : ℕ → AvailableSpace → Float → List Float → ℕ

@@ -18,7 +18,7 @@ use Rattle.grid.proofs.Meaning.{at-of-grid}
 use Rattle.grid.proofs.Sums.{add-grid, abs-add}
 use Rattle.refusal.specs.Marks.{sumUpTo}
 use Rattle.refusal.proofs.Sweep.{sum-more}
-use Rattle.breaking.specs.declared.AvailableSpace.{AvailableSpace}
+use Rattle.breaklimit.specs.declared.AvailableSpace.{AvailableSpace}
 use Rattle.breaking.specs.Breaking.{limitOf, fits}
 use Rattle.breaking.specs.Calls.{units}
 use Rattle.breaking.specs.Steps.{Breakable, LineEnd}

@@ -1,17 +1,11 @@
--- The contracts of the two calls leave no choice: any two results that they allow, cells included, are equal. Each is one equation. Assumes nothing.
+-- The contract of greedy breaking leaves no choice: any two results that it allows, cells included, are equal. It is one equation. Assumes nothing.
 use mathlib.Core.Path.{_≡_, sym, ap, _∙_}
 use mathlib.Core.List.{List}
 use Prim.Native.Nat.{ℕ}
 use lib.Ieee.{Float}
 use Rattle.refusal.specs.declared.Answer.{Answer}
-use Rattle.breaking.specs.declared.AvailableSpace.{AvailableSpace}
-use Rattle.breaking.specs.declared.Query.{Query}
-use Rattle.breaking.specs.declared.BreakLimit.{BreakLimit}
-use Rattle.breaking.specs.Limit.{limitCall}
+use Rattle.breaklimit.specs.declared.AvailableSpace.{AvailableSpace}
 use Rattle.breaking.specs.Calls.{Broken, broken, greedyCall}
-
-pub one-limit : (q : Query) (r s : BreakLimit) → r ≡ limitCall q → s ≡ limitCall q → r ≡ s
-one-limit q r s p e = p ∙ sym e
 
 pub one-greedy : (limit : AvailableSpace) (gap : Float) (sizes : List Float) (before : List ℕ) (r s : Answer) (after later : List ℕ)
     → broken r after ≡ greedyCall limit gap sizes before

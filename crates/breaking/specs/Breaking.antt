@@ -6,8 +6,8 @@ use lib.ListN.{length, drop}
 use lib.IntN.{ℤ, pos, _+ℤ_}
 use lib.Signed.{leZ}
 use Rattle.grid.specs.Grid.{sixtyFourths}
-use Rattle.breaking.specs.declared.AvailableSpace.{AvailableSpace}
-use Rattle.breaking.specs.declared.AvailableSpace.the-variants.{Definite, MinContent, MaxContent}
+use Rattle.breaklimit.specs.declared.AvailableSpace.{AvailableSpace}
+use Rattle.breaklimit.specs.declared.AvailableSpace.the-variants.{Definite, MinContent, MaxContent}
 
 -- "Available space is min-content, max-content or a definite number of pixels": the same in sixty-fourths
 pub data Limit : Type 0 where

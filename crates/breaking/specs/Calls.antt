@@ -16,8 +16,8 @@ use Rattle.refusal.specs.declared.Verdict.the-variants as verdict
 use Rattle.refusal.specs.declared.Answer.{Answer}
 use Rattle.refusal.specs.declared.Answer.the-variants.{Done}
 use Rattle.refusal.specs.declared.Answer.the-variants as answer
-use Rattle.breaking.specs.declared.AvailableSpace.{AvailableSpace}
-use Rattle.breaking.specs.Limit.{spaceNumbers}
+use Rattle.breaklimit.specs.declared.AvailableSpace.{AvailableSpace}
+use Rattle.breaklimit.specs.Limit.{spaceNumbers}
 use Rattle.breaking.specs.Breaking.{limitOf, greedy}
 
 -- the numbers that a breaking call takes: codes that came before the limit, the limit, the gap, and the items' outer main sizes

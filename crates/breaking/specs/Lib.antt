@@ -1,4 +1,3 @@
-pub mod Limit
 pub mod Breaking
 pub mod Calls
 pub mod Steps

@@ -7,8 +7,8 @@ use lib.IntN.{pos}
 use lib.Ieee.{Float}
 use Rattle.grid.specs.Grid.{Length, sixtyFourths}
 use Rattle.refusal.specs.Marks.{Lengths}
-use Rattle.breaking.specs.declared.AvailableSpace.{AvailableSpace}
-use Rattle.breaking.specs.declared.AvailableSpace.the-variants.{Definite, MinContent, MaxContent}
+use Rattle.breaklimit.specs.declared.AvailableSpace.{AvailableSpace}
+use Rattle.breaklimit.specs.declared.AvailableSpace.the-variants.{Definite, MinContent, MaxContent}
 use Rattle.breaking.specs.Breaking.{limitOf, taken}
 use Rattle.breaking.specs.Calls.{outerSum, units, written}
 

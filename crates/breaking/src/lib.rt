@@ -1,4 +1,4 @@
-// Breaking items into lines: the break limit, what fits, and greedy breaking (document 01, "Break limit" and "Breaking").
+// Breaking items into lines: what fits, and greedy breaking (document 01, "Breaking").
 ghost use mathlib.Core.Path.{_≡_};
 ghost use mathlib.Core.List.{List};
 ghost use Prim.Native.Nat.{_≤_, _<_};
@@ -7,190 +7,15 @@ ghost use lib.IntN.{ℤ};
 ghost use Rattle.grid.specs.Grid.{At, sixtyFourths};
 ghost use Rattle.refusal.specs.Domain.{Number};
 ghost use Rattle.refusal.specs.Marks.{leastOf};
-ghost use Rattle.grid.specs.Floats.{lowered, raised};
-ghost use Rattle.breaking.specs.Limit.{spaceOf, raisedTo, numberOr, underMaximum, keepsSpace, withoutMaximum, byMaximum, breakLimit, spaceNumbers, boundNumbers, limitVerdict, limitCall};
 ghost use Rattle.breaking.specs.Breaking.{limitOf, fits, greedy};
 ghost use Rattle.breaking.specs.Calls.{breakingVerdict, units, broken, greedyCall};
 ghost use Rattle.breaking.specs.Steps.{LengthLimit, Breakable, LineEnd, Counted, Listed, cleared};
+use breaklimit::AvailableSpace;
+use breaklimit::mark_space;
 use refusal::Answer;
 use refusal::Kind;
 use refusal::Mark;
-use refusal::Refusal;
 use refusal::Verdict;
-
-// The space that a line may take.
-pub enum AvailableSpace {
-    Definite(f32),
-    MinContent,
-    MaxContent,
-}
-
-// A minimum or maximum that may be absent.
-pub enum Bound {
-    Absent,
-    Given(f32),
-}
-
-// What the break limit turns on: the known main size, the container's own main size, its direction, and the space and bounds on its main axis.
-pub struct Query {
-    pub known_is_definite: bool,
-    pub main_is_definite: bool,
-    pub is_row: bool,
-    pub available: AvailableSpace,
-    pub minimum: Bound,
-    pub maximum: Bound,
-}
-
-pub enum BreakLimit {
-    Limit(AvailableSpace),
-    Refused(Refusal),
-}
-
-// The space that a kind names, as hosts and the container say it. A kind above 2 is refused before.
-pub fn space_of(kind: u32, limit: f32) -> AvailableSpace
-    ensures { λ r. ⌜ r ≡ spaceOf kind limit ⌝ }
-{
-    if kind == 0 {
-        return AvailableSpace::Definite(limit);
-    }
-    if kind == 1 {
-        return AvailableSpace::MinContent;
-    }
-    AvailableSpace::MaxContent
-}
-
-pub fn lower(x: f32, y: f32) -> f32
-    ensures { λ r. ⌜ r ≡ lowered x y ⌝ }
-{
-    if y < x { y } else { x }
-}
-
-pub fn raise(x: f32, y: f32) -> f32
-    ensures { λ r. ⌜ r ≡ raised x y ⌝ }
-{
-    if x < y { y } else { x }
-}
-
-pub fn raise_to(minimum: Bound, x: f32) -> f32
-    ensures { λ r. ⌜ r ≡ raisedTo minimum x ⌝ }
-{
-    match minimum {
-        Bound::Absent => x,
-        Bound::Given(low) => raise(x, low),
-    }
-}
-
-fn number_or(available: AvailableSpace, maximum: f32) -> f32
-    ensures { λ r. ⌜ r ≡ numberOr available maximum ⌝ }
-{
-    match available {
-        AvailableSpace::Definite(x) => x,
-        AvailableSpace::MinContent => maximum,
-        AvailableSpace::MaxContent => maximum,
-    }
-}
-
-fn under_maximum(q: Query, maximum: f32) -> f32
-    ensures { λ r. ⌜ r ≡ underMaximum q maximum ⌝ }
-{
-    let available = q.available;
-    let x = number_or(available, maximum);
-    if q.main_is_definite {
-        x
-    } else {
-        lower(x, maximum)
-    }
-}
-
-// A column without a definite main size does not keep a definite space.
-fn keeps_space(q: Query) -> bool
-    ensures { λ r. ⌜ r ≡ keepsSpace q ⌝ }
-{
-    if q.is_row { true } else { q.main_is_definite }
-}
-
-fn without_maximum(q: Query, available: AvailableSpace) -> AvailableSpace
-    ensures { λ r. ⌜ r ≡ withoutMaximum q available ⌝ }
-{
-    match available {
-        AvailableSpace::Definite(x) => {
-            if keeps_space(q) {
-                AvailableSpace::Definite(grid::clean(x))
-            } else {
-                AvailableSpace::MaxContent
-            }
-        }
-        AvailableSpace::MinContent => AvailableSpace::MinContent,
-        AvailableSpace::MaxContent => AvailableSpace::MaxContent,
-    }
-}
-
-fn by_maximum(q: Query, maximum: Bound) -> AvailableSpace
-    ensures { λ r. ⌜ r ≡ byMaximum q maximum ⌝ }
-{
-    let available = q.available;
-    let minimum = q.minimum;
-    match maximum {
-        Bound::Absent => without_maximum(q, available),
-        Bound::Given(high) => {
-            let number = raise_to(minimum, under_maximum(q, high));
-            AvailableSpace::Definite(grid::clean(number))
-        }
-    }
-}
-
-// The break limit of numbers that have passed the checks.
-pub fn limit_of(q: Query) -> AvailableSpace
-    ensures { λ r. ⌜ r ≡ breakLimit q ⌝ }
-{
-    let maximum = q.maximum;
-    if q.known_is_definite {
-        by_maximum(q, maximum)
-    } else {
-        AvailableSpace::MaxContent
-    }
-}
-
-fn mark_space(limit: AvailableSpace) -> Mark
-    ensures { λ r. ⌜ r .0 ≡ leastOf (spaceNumbers limit) 0 ⌝ }
-{
-    match limit {
-        AvailableSpace::Definite(x) => single::mark_float(Kind::Length, x, 0),
-        AvailableSpace::MinContent => refusal::no_mark(),
-        AvailableSpace::MaxContent => refusal::no_mark(),
-    }
-}
-
-fn mark_bound(bound: Bound) -> Mark
-    ensures { λ r. ⌜ r .0 ≡ leastOf (boundNumbers bound) 0 ⌝ }
-{
-    match bound {
-        Bound::Absent => refusal::no_mark(),
-        Bound::Given(x) => single::mark_float(Kind::Size, x, 0),
-    }
-}
-
-// Checks 3 to 5 of a break limit. `codes` is the mark of codes that were taken before its numbers.
-pub fn check_limit(codes: Mark, q: Query) -> Verdict
-    ensures { λ r. ⌜ ((cs : List Number) → codes .0 ≡ leastOf cs 0 → r ≡ limitVerdict cs q) ⌝ }
-{
-    let available = q.available;
-    let minimum = q.minimum;
-    let maximum = q.maximum;
-    let bounds = refusal::least(mark_bound(minimum), mark_bound(maximum));
-    let numbers = refusal::least(mark_space(available), bounds);
-    refusal::judge(refusal::least(codes, numbers))
-}
-
-// The break limit of any bits: refusals 3, 4 and 5 are the container's.
-pub fn break_limit(q: Query) -> BreakLimit
-    ensures { λ r. ⌜ r ≡ limitCall q ⌝ }
-{
-    match check_limit(refusal::no_mark(), q) {
-        Verdict::Refused(why) => BreakLimit::Refused(why),
-        Verdict::Passed => BreakLimit::Limit(limit_of(q)),
-    }
-}
 
 // Whether a line of several items, of this size, fits: greedy breaking asks it once the limit has passed the checks. No entry point.
 pub fn line_fits(limit: AvailableSpace, size: f32) -> bool

@@ -2,8 +2,8 @@
 use mathlib.Core.Bool.{Bool, _||_}
 use Prim.Native.Nat.{ℕ}
 use lib.Dec.{eqb}
-use Rattle.breaking.specs.declared.AvailableSpace.{AvailableSpace}
-use Rattle.breaking.specs.Limit.{spaceOf}
+use Rattle.breaklimit.specs.declared.AvailableSpace.{AvailableSpace}
+use Rattle.breaklimit.specs.Limit.{spaceOf}
 use Rattle.linesize.specs.declared.container.Cross.{Cross}
 use Rattle.crosschecks.specs.declared.numbers.CrossNumbers.{CrossNumbers}
 use Rattle.crosschecks.specs.Numbers.{crossOf}

@@ -5,7 +5,7 @@ use lib.Ieee.{Float, ofInt, ofBits, add, sub, mul, div, lt}
 use Rattle.grid.specs.Grid.{cleaned}
 use Rattle.align.specs.declared.Distribution.the-variants.{Stretch}
 use Rattle.align.specs.declared.ContentAlignment.the-variants.{Spread}
-use Rattle.breaking.specs.declared.Bound.the-variants.{Absent, Given}
+use Rattle.breaklimit.specs.declared.Bound.the-variants.{Absent, Given}
 use Rattle.linesize.specs.declared.container.Wrap.the-variants as wrap
 use Rattle.linesize.specs.declared.container.Cross.{Cross}
 use Rattle.grid.specs.Floats.{counted, gaps}

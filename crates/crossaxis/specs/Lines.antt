@@ -9,8 +9,8 @@ use Rattle.grid.specs.Grid.{cleaned}
 use Rattle.align.specs.declared.Distribution.the-variants.{Stretch, SpaceBetween, SpaceAround, SpaceEvenly}
 use Rattle.align.specs.declared.ContentAlignment.{ContentAlignment}
 use Rattle.align.specs.declared.ContentAlignment.the-variants.{Unsafe, Safe, Spread}
-use Rattle.breaking.specs.declared.Bound.{Bound}
-use Rattle.breaking.specs.declared.Bound.the-variants.{Absent, Given}
+use Rattle.breaklimit.specs.declared.Bound.{Bound}
+use Rattle.breaklimit.specs.declared.Bound.the-variants.{Absent, Given}
 use Rattle.linesize.specs.declared.container.Cross.{Cross}
 use Rattle.grid.specs.Floats.{_⊕_, _⊖_, _⊘_, nought, counted, gaps}
 use Rattle.align.specs.Lists.{total, overwritten}

@@ -7,7 +7,7 @@ ghost use Rattle.crossaxis.specs.Lines.{stretches, stretchTarget, gainTo
 use align::ContentAlignment;
 use align::Distribution;
 use align::axis;
-use breaking::Bound;
+use breaklimit::Bound;
 use linesize::container;
 use linesize::container::Cross;
 

@@ -3,13 +3,14 @@ use mathlib.Core.Bool.{cond}
 use mathlib.Core.List.{List, [], _∷_, _++_}
 use Prim.Native.Nat.{ℕ}
 use lib.Dec.{eqb}
+use lib.ListN.{length}
 use lib.Ieee.{Float}
 use Rattle.refusal.specs.Domain.{Number, float, code}
 use Rattle.refusal.specs.Optional.{optional}
 use Rattle.refusal.specs.Lists.{floatAt, codeAt, besideAt}
 use Rattle.refusal.specs.declared.Kind.the-variants.{Size, Margin}
-use Rattle.breaking.specs.declared.Bound.{Bound}
-use Rattle.breaking.specs.declared.Bound.the-variants.{Absent, Given}
+use Rattle.breaklimit.specs.declared.Bound.{Bound}
+use Rattle.breaklimit.specs.declared.Bound.the-variants.{Absent, Given}
 use Rattle.linesize.specs.declared.container.Cross.{Cross}
 use Rattle.crosschecks.specs.declared.numbers.CrossNumbers.{CrossNumbers}
 use Rattle.linesize.specs.Container.{wrapOf}
@@ -49,3 +50,8 @@ crossNumbersAt ls i = floatAt Size (ls .measured) i ++ (floatAt Size (ls .minimu
 -- and the codes of `align-self`, and of an auto cross size
 abbrev pub acrossNumbersAt : Items → List ℕ → List ℕ → ℕ → List Number
 acrossNumbersAt ls alignment auto-size i = crossNumbersAt ls i ++ (codeAt 10 alignment i ++ codeAt 1 auto-size i)
+
+-- the lengths of a line's lists
+abbrev pub itemLengths : Items → List ℕ
+itemLengths ls =
+    length (ls .measured) ∷ length (ls .minimum) ∷ length (ls .maximum) ∷ length (ls .capped) ∷ length (ls .edges) ∷ length (ls .start) ∷ length (ls .end) ∷ length (ls .auto-start) ∷ length (ls .auto-end) ∷ []

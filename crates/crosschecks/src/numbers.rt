@@ -4,7 +4,7 @@ ghost use mathlib.Core.List.{List};
 ghost use Rattle.refusal.specs.Domain.{Number};
 ghost use Rattle.refusal.specs.Marks.{leastOf};
 ghost use Rattle.crosschecks.specs.Numbers.{boundOf, crossOf, boundNumbers, boundsNumbers, crossNumbers, sizingNumbers};
-use breaking::Bound;
+use breaklimit::Bound;
 use linesize::container;
 use linesize::container::Cross;
 use refusal::Kind;

@@ -13,8 +13,8 @@ use lib.Ieee.Exact.{HasValue}
 use Rattle.grid.specs.Grid.{At, onGrid, Length, sixtyFourths, signed}
 use Rattle.grid.proofs.Meaning.{at-of-grid}
 use Rattle.refusal.specs.Marks.{sumUpTo}
-use Rattle.breaking.specs.declared.AvailableSpace.{AvailableSpace}
-use Rattle.breaking.specs.declared.AvailableSpace.the-variants.{Definite, MinContent, MaxContent}
+use Rattle.breaklimit.specs.declared.AvailableSpace.{AvailableSpace}
+use Rattle.breaklimit.specs.declared.AvailableSpace.the-variants.{Definite, MinContent, MaxContent}
 use Rattle.breaking.specs.Breaking.{definite, limitOf}
 use Rattle.breaking.specs.Calls.{units, outerSum}
 use Rattle.breaking.specs.Steps.{Breakable, LengthLimit}

@@ -5,7 +5,7 @@ use Prim.Native.Nat.{ℕ, _-_}
 use lib.ListN.{length, replicate}
 use lib.Ieee.{Float, binary64, ofBits}
 use Rattle.grid.specs.Grid.{sixtyFourths}
-use Rattle.breaking.specs.declared.AvailableSpace.{AvailableSpace}
+use Rattle.breaklimit.specs.declared.AvailableSpace.{AvailableSpace}
 use Rattle.breaking.specs.Breaking.{limitOf}
 use Rattle.breaking.specs.Calls.{units}
 use Rattle.rule.specs.Rule as rule

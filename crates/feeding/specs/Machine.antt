@@ -8,7 +8,7 @@ use Prim.Native.Nat.{ℕ, _+_, _≤_, _^_}
 use lib.Dec.{ltb}
 use lib.ListN.{length, take, set, replicate}
 use lib.Ieee.{Float, binary32, ofBits}
-use Rattle.breaking.specs.declared.AvailableSpace.the-variants.{MaxContent}
+use Rattle.breaklimit.specs.declared.AvailableSpace.the-variants.{MaxContent}
 use Rattle.format.specs.Format.{front}
 use Rattle.feeding.specs.declared.Reader.{Reader}
 use Rattle.feeding.specs.declared.Captured.{Captured}

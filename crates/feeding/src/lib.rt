@@ -3,7 +3,7 @@ ghost use mathlib.Core.Path.{_≡_};
 ghost use Prim.Native.Nat.{_+_, _≤_, _^_};
 ghost use lib.ListN.{length};
 ghost use Rattle.feeding.specs.Machine.{withSizes, advanced, kept, stepped, fed, started, finished, Ready};
-use breaking::AvailableSpace;
+use breaklimit::AvailableSpace;
 use format::Head;
 use format::Parsed;
 use format::Stage;

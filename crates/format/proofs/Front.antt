@@ -8,7 +8,7 @@ use native.Mathlib.Decide.{ℕ-discrete, decLe}
 use borrow.Author.Tests.{eq-eqb, ne-eqb, le-leb, lt-leb}
 use native.Mathlib.Omega.{arith}
 use Rattle.format.specs.Format.{limitOf, headOf, float, kind, firstFront, laterFront}
-use Rattle.breaking.specs.declared.AvailableSpace.the-variants.{MaxContent}
+use Rattle.breaklimit.specs.declared.AvailableSpace.the-variants.{MaxContent}
 use Rattle.format.specs.declared.Parsed.the-variants.{Head, Item, End, Partial, Broken}
 
 pub above : (k : ℕ) (x : Float) → (k ≡ 0 → ⊥) → (k ≡ 1 → ⊥) → MaxContent ≡ limitOf k x

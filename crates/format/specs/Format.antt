@@ -5,8 +5,8 @@ use Prim.Native.Nat.{ℕ, zero, suc, _+_, _*_}
 use lib.Dec.{eqb, leb}
 use lib.ListN.{length, getD}
 use lib.Ieee.{Float, binary32, ofBits}
-use Rattle.breaking.specs.declared.AvailableSpace.{AvailableSpace}
-use Rattle.breaking.specs.declared.AvailableSpace.the-variants.{Definite, MinContent, MaxContent}
+use Rattle.breaklimit.specs.declared.AvailableSpace.{AvailableSpace}
+use Rattle.breaklimit.specs.declared.AvailableSpace.the-variants.{Definite, MinContent, MaxContent}
 use Rattle.format.specs.declared.Head.{Head}
 use Rattle.format.specs.declared.Stage.{Stage}
 use Rattle.format.specs.declared.Stage.the-variants as stage

@@ -4,7 +4,7 @@ ghost use Prim.Native.Nat.{_+_, _≤_, _<_};
 ghost use lib.ListN.{length};
 ghost use lib.Ieee.{binary32, ofBits};
 ghost use Rattle.format.specs.Format.{half, word, float, limitOf, headOf, firstFront, laterFront, front};
-use breaking::AvailableSpace;
+use breaklimit::AvailableSpace;
 
 // A record of kind 1: what the items are broken by.
 pub struct Head {

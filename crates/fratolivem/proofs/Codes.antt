@@ -12,7 +12,7 @@ use Rattle.grid.specs.Grid.{sixtyFourths}
 use Rattle.refusal.specs.Domain.{asAnswer}
 use Rattle.refusal.specs.declared.Verdict.{Verdict}
 use Rattle.refusal.specs.declared.Verdict.the-variants.{Passed, Refused}
-use Rattle.breaking.specs.declared.AvailableSpace.{AvailableSpace}
+use Rattle.breaklimit.specs.declared.AvailableSpace.{AvailableSpace}
 use Rattle.breaking.specs.Breaking.{limitOf, greedy}
 use Rattle.breaking.specs.Calls.{breakingVerdict, units, brokenInto, greedyCall}
 use Rattle.breaking.proofs.Accepted.{code-passes, code-fails}
@@ -20,7 +20,7 @@ use Rattle.refusal.specs.declared.Answer.{Answer}
 use Rattle.balance.specs.Calls.{Lent, hasRoom, BalancedCall}
 use Rattle.crossing.specs.declared.CAnswer.{CAnswer}
 use Rattle.crossing.specs.Crossing.{cAnswer}
-use Rattle.breaking.specs.Limit.{spaceOf}
+use Rattle.breaklimit.specs.Limit.{spaceOf}
 use Rattle.fratolivem.specs.Boundary.{kindNumber, greedyFromC, balancedFromC, BalancedFromC}
 
 -- a verdict that refused, as the answer of a call: no lines were made, so it does not matter which would have been

@@ -11,7 +11,7 @@ use Rattle.balance.specs.Calls.{Lent}
 use Rattle.balance.proofs.Call.{divides-one}
 use Rattle.crossing.specs.declared.CAnswer.{CAnswer}
 use Rattle.crossing.specs.Crossing.{cAnswer}
-use Rattle.breaking.specs.Limit.{spaceOf}
+use Rattle.breaklimit.specs.Limit.{spaceOf}
 use Rattle.fratolivem.specs.Boundary.{balancedFromC, BalancedFromC}
 
 module _ (kind : ℕ) (limit gap : Float) (minimum : ℕ) (sizes : List Float) (before : Lent) where

@@ -15,15 +15,15 @@ use Rattle.refusal.specs.declared.Verdict.the-variants.{Passed}
 use Rattle.refusal.specs.declared.Verdict.the-variants as verdict
 use Rattle.refusal.specs.declared.Answer.the-variants.{Done}
 use Rattle.refusal.specs.declared.Answer.the-variants as answer
-use Rattle.breaking.specs.declared.AvailableSpace.{AvailableSpace}
-use Rattle.breaking.specs.declared.AvailableSpace.the-variants.{Definite, MinContent, MaxContent}
-use Rattle.breaking.specs.declared.Bound.{Bound}
-use Rattle.breaking.specs.declared.Bound.the-variants.{Absent, Given}
-use Rattle.breaking.specs.declared.Query.{Query}
-use Rattle.breaking.specs.declared.BreakLimit.{BreakLimit}
-use Rattle.breaking.specs.declared.BreakLimit.the-variants.{Limit}
-use Rattle.breaking.specs.declared.BreakLimit.the-variants as limit
-use Rattle.breaking.specs.Limit.{spaceOf, limitVerdict, limitFrom}
+use Rattle.breaklimit.specs.declared.AvailableSpace.{AvailableSpace}
+use Rattle.breaklimit.specs.declared.AvailableSpace.the-variants.{Definite, MinContent, MaxContent}
+use Rattle.breaklimit.specs.declared.Bound.{Bound}
+use Rattle.breaklimit.specs.declared.Bound.the-variants.{Absent, Given}
+use Rattle.breaklimit.specs.declared.Query.{Query}
+use Rattle.breaklimit.specs.declared.BreakLimit.{BreakLimit}
+use Rattle.breaklimit.specs.declared.BreakLimit.the-variants.{Limit}
+use Rattle.breaklimit.specs.declared.BreakLimit.the-variants as limit
+use Rattle.breaklimit.specs.Limit.{spaceOf, limitVerdict, limitFrom}
 use Rattle.breaking.specs.Breaking.{limitOf, greedy}
 use Rattle.breaking.specs.Calls.{breakingVerdict, units, Broken, brokenInto}
 use Rattle.balance.specs.Calls.{Lent, hasRoom, Divides}

@@ -2,14 +2,14 @@
 // nothing is refusal 5. Every call takes any bits; all else is inside.
 ghost use mathlib.Core.Path.{_≡_};
 ghost use lib.Ieee.{Float};
-ghost use Rattle.breaking.specs.Limit.{limitFrom};
+ghost use Rattle.breaklimit.specs.Limit.{limitFrom};
 ghost use Rattle.refusal.specs.Marks.{leastOf};
 ghost use Rattle.fratolivem.specs.Boundary.{boundOf, cSpace, cRefused, cLimit, askedCodes, limitFromC, Crossed, greedyFromC, BalancedFromC};
 ghost use Rattle.balance.specs.Calls.{lent};
-use breaking::AvailableSpace;
-use breaking::Bound;
-use breaking::Query;
-use breaking::space_of;
+use breaklimit::AvailableSpace;
+use breaklimit::Bound;
+use breaklimit::Query;
+use breaklimit::space_of;
 use crossing::CAnswer;
 use crossing::refusal_to_c;
 use crossing::to_c;
@@ -97,7 +97,7 @@ fn limit_to_c(v: Verdict, q: Query) -> CLimit
 {
     match v {
         Verdict::Refused(why) => no_limit(refusal_to_c(why)),
-        Verdict::Passed => space_to_c(breaking::limit_of(q)),
+        Verdict::Passed => space_to_c(breaklimit::limit_of(q)),
     }
 }
 
@@ -127,7 +127,7 @@ pub extern "C" fn fratolivem_break_limit(
         minimum: least,
         maximum: most,
     };
-    limit_to_c(breaking::check_limit(codes, q), q)
+    limit_to_c(breaklimit::check_limit(codes, q), q)
 }
 
 #[no_mangle]

@@ -5,10 +5,10 @@ use Prim.Native.Nat.{ℕ}
 use lib.ListN.{getD}
 use lib.Ieee.{Float}
 use Rattle.grid.specs.Grid.{cleaned}
-use Rattle.breaking.specs.declared.Bound.{Bound}
-use Rattle.breaking.specs.declared.Bound.the-variants.{Absent, Given}
+use Rattle.breaklimit.specs.declared.Bound.{Bound}
+use Rattle.breaklimit.specs.declared.Bound.the-variants.{Absent, Given}
 use Rattle.grid.specs.Floats.{lowered}
-use Rattle.breaking.specs.Limit.{raisedTo}
+use Rattle.breaklimit.specs.Limit.{raisedTo}
 use Rattle.linesize.specs.declared.container.Wrap.{Wrap}
 use Rattle.linesize.specs.declared.container.Wrap.the-variants as wrap
 use Rattle.linesize.specs.declared.container.Cross.{Cross}

@@ -1,9 +1,9 @@
 // The container's cross axis: how it wraps, its inner size, and the bounds on it.
 ghost use mathlib.Core.Path.{_≡_};
 ghost use Rattle.linesize.specs.Container.{wrapOf, isSingleLine, isReversed, loweredTo, readBound, readCross, bounded, innerSize, orBounded};
-use breaking::Bound;
-use breaking::lower;
-use breaking::raise_to;
+use breaklimit::Bound;
+use breaklimit::lower;
+use breaklimit::raise_to;
 
 pub enum Wrap {
     NoWrap,

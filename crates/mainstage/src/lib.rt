@@ -12,6 +12,8 @@ use container::columns::store_four;
 use flexlines::flex_all;
 use mainlines::main_by_line;
 
+pub mod reading; // reading.rt: the items' numbers, into the table
+
 // Whether items are walked from the last one.
 fn is_reversed(direction: u32) -> bool
     ensures { λ r. ⌜ r ≡ (eqb direction 1 || eqb direction 3) ⌝ }

@@ -23,9 +23,8 @@ use Rattle.refusal.specs.declared.Kind.the-variants as kind
 use Rattle.refusal.proofs.Checks.{judged-checked, accepted, then-passed, shape-passed, fine-append, fine-length, fine-size, fine-code}
 use Rattle.breaking.specs.Steps.{LengthLimit}
 use Rattle.flexing.specs.Flex.{outerSum}
-use Rattle.flexing.specs.Items.{itemsOf}
 use Rattle.rounds.specs.Cells.{Wide, itemsIn, Tabled, Held}
-use Rattle.rounds.proofs.Columns.{tabled-of, items-are}
+use Rattle.rounds.proofs.Columns.{tabled-of}
 use Rattle.flexchecks.specs.Input.{inputOf}
 use Rattle.flexchecks.proofs.Accept.{inner-length, gap-length, measured-of, refused-then, passed-then}
 use Rattle.wrapping.specs.declared.Mode.the-variants.{Single, Greedy, Balanced}
@@ -35,14 +34,18 @@ use Rattle.crosschecks.specs.Numbers.{boundNumbers, crossNumbers}
 use Rattle.crosschecks.specs.declared.numbers.CrossNumbers.{CrossNumbers}
 use Rattle.container.specs.declared.Container.{Container}
 use Rattle.container.specs.Columns.{column, mainLists}
-use Rattle.breaking.specs.Limit.{spaceOf}
+use Rattle.breaklimit.specs.Limit.{spaceOf}
 use Rattle.container.specs.Container.{limitOf, balances, crossNumbersOf}
 use Rattle.container.specs.Stages.{Listed}
 use Rattle.passchecks.specs.Checks.{containerNumbers, passInput, passSum, passVerdict}
 use Rattle.passchecks.proofs.Taken.{number-length}
 use Rattle.passchecks.proofs.Rooms.{Roomy, roomy-of}
-use Rattle.pass.specs.Pass.{Lent, modeOf}
-use Rattle.pass.specs.Stages.{Checked, Accepted}
+use Rattle.breakstage.specs.BreakStage.{modeOf}
+use Rattle.laying.specs.Laid.{Lent}
+use Rattle.laying.specs.Stages.{Accepted}
+use Rattle.pass.specs.declared.PassAnswer.{PassAnswer}
+use Rattle.pass.specs.Pass.{Answered}
+use Rattle.pass.specs.Checked.{Checked}
 
 -- ---- the container's numbers
 
@@ -79,11 +82,6 @@ room-of wrap n b l h w = go (eqb wrap 0) (ltb wrap 3) refl
 -- "-0.0 reads as 0"
 clean-size : (x : Float) → Length x → sixtyFourths (cleaned x) ≡ sixtyFourths x
 clean-size x l = grid-of-at (cleaned x) (sixtyFourths x) (cleaned-at 64 (at-of-grid x (l .grid))) .1
-
--- ---- the table holds the items
-
-pub items-in : {n : ℕ} (t : List Float) {x : List Float} {codes : List ℕ} → Listed n x codes → Held (mainLists n x codes) t → itemsIn t 0 n ≡ itemsOf (mainLists n x codes)
-items-in {n} t {x} {codes} l held = ap (itemsIn t 0) (sym (number-length l 0 (omega arith))) ∙ items-are (mainLists n x codes) t held
 
 -- ---- the verdict, from checks 1 to 5 and check 6
 
@@ -166,3 +164,8 @@ module _ {c : Container} {n : ℕ} {x : List Float} {codes : List ℕ} {b : Lent
           };
           lines-room = given .lines-room;
         }
+
+-- ---- the answer under an equal verdict
+
+pub answered-as : (c : Container) (n : ℕ) (x : List Float) (codes : List ℕ) (b : Lent) (r : PassAnswer) (a : Lent) {v w : Verdict} → v ≡ w → Answered v c n x codes b r a → Answered w c n x codes b r a
+answered-as c n x codes b r a e h = subst (λ (y : Verdict). Answered y c n x codes b r a) e h

@@ -1,5 +1,2 @@
-pub mod StageLaws
 pub mod AcceptLaws
-pub mod LaidLaws
-pub mod LineAlone
 pub mod OnePass

@@ -1,2 +1,2 @@
 pub mod Pass
-pub mod Stages
+pub mod Checked

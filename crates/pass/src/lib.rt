@@ -2,13 +2,12 @@
 ghost use mathlib.Core.Path.{_≡_};
 ghost use Rattle.refusal.specs.Domain.{summed};
 ghost use Rattle.passchecks.specs.Checks.{passSum};
-ghost use Rattle.pass.specs.Pass.{lent, Answered, Passed};
-ghost use Rattle.pass.specs.Stages.{Checked};
+ghost use Rattle.laying.specs.Laid.{lent};
+ghost use Rattle.pass.specs.Pass.{Answered, Passed};
+ghost use Rattle.pass.specs.Checked.{Checked};
 use container::Container;
 use passchecks::check_pass;
 use refusal::Verdict;
-
-mod stages; // stages.rt: the stages of an accepted pass
 
 // What the pass answers: the lines, the sum of their rounds, and the container's inner cross size.
 pub enum PassAnswer {
@@ -38,25 +37,32 @@ fn pass_checked<'a>(
     ensures { λ r. ⌜ Answered (summed (passSum c n (now (numbers .entry)) (now (codes .entry)))) c n (now (numbers .entry)) (now (codes .entry)) (lent (now (placed .entry)) (now (lines .entry)) (now (counts .entry)) (now (rounds .entry)) (now (free .entry)) (now (work .entry)) (now (sums .entry))) r (lent (now (placed .exit)) (now (lines .exit)) (now (counts .exit)) (now (rounds .exit)) (now (free .exit)) (now (work .exit)) (now (sums .exit))) ⌝ }
 {
     let mut table = [0.0; 8192];
-    stages::read_main(n, numbers, codes, &mut table);
+    mainstage::reading::read_main(n, numbers, codes, &mut table);
     let gap = grid::clean(c.gap_main);
     let v = refusal::check_sum(rounds::sum::outer_sum(&table, n, gap));
     match v {
         Verdict::Refused(why) => PassAnswer::Refused(why),
-        Verdict::Passed => stages::lay_out(
-            c,
-            n,
-            &table,
-            numbers,
-            codes,
-            placed,
-            lines,
-            counts,
-            rounds,
-            free,
-            work,
-            sums,
-        ),
+        Verdict::Passed => {
+            let l = laying::lay_out(
+                c,
+                n,
+                &table,
+                numbers,
+                codes,
+                placed,
+                lines,
+                counts,
+                rounds,
+                free,
+                work,
+                sums,
+            );
+            PassAnswer::Done {
+                lines: l.lines,
+                rounds: l.rounds,
+                inner_cross: l.inner_cross,
+            }
+        }
     }
 }
 

@@ -19,7 +19,8 @@ use Rattle.refusal.specs.declared.Verdict.the-variants as verdict
 use Rattle.passchecks.specs.Checks.{passRoom, passVerdict, passInput, passSum}
 use Rattle.pass.specs.declared.PassAnswer.{PassAnswer}
 use Rattle.pass.specs.declared.PassAnswer.the-variants.{Done, Refused}
-use Rattle.pass.specs.Pass.{Lent, Passed, verdictOf}
+use Rattle.laying.specs.Laid.{Lent}
+use Rattle.pass.specs.Pass.{Passed, verdictOf}
 use Rattle.records.specs.declared.Item.{Item}
 use Rattle.records.specs.Items.{numbersOf, codesOf}
 use Rattle.records.proofs.Laid.{taken-numbers, taken-codes}

@@ -5,7 +5,7 @@ use mathlib.Core.List.{List}
 use Prim.Native.Nat.{ℕ}
 use lib.Ieee.{Float}
 use Rattle.container.specs.declared.Container.{Container}
-use Rattle.pass.specs.Pass.{Lent}
+use Rattle.laying.specs.Laid.{Lent}
 use Rattle.pass.proofs.OnePass.{one-pass}
 use Rattle.passexports.specs.declared.CPassed.{CPassed}
 use Rattle.passexports.specs.Passed.{cPassed, PassedFromC}

@@ -7,7 +7,8 @@ use Rattle.refusal.specs.Domain.{refusalOf}
 use Rattle.container.specs.declared.Container.{Container}
 use Rattle.pass.specs.declared.PassAnswer.{PassAnswer}
 use Rattle.pass.specs.declared.PassAnswer.the-variants.{Done, Refused}
-use Rattle.pass.specs.Pass.{Lent, Passed}
+use Rattle.laying.specs.Laid.{Lent}
+use Rattle.pass.specs.Pass.{Passed}
 use Rattle.crossing.specs.Crossing.{crossed}
 use Rattle.crossing.specs.declared.CAnswer.{CAnswer}
 use Rattle.passexports.specs.declared.CPassed.{CPassed}

@@ -2,7 +2,7 @@
 ghost use mathlib.Core.Path.{_≡_};
 ghost use Prim.Native.Nat.{_*_, _≤_};
 ghost use lib.ListN.{length, take};
-ghost use Rattle.pass.specs.Pass.{lent};
+ghost use Rattle.laying.specs.Laid.{lent};
 ghost use Rattle.passexports.specs.Passed.{cRefused, cPassed, PassedFromC};
 use crate::CPassed;
 use container::Container;

@@ -1,6 +1,6 @@
 // The whole pass for a host in C or C++: its items are a slice of structs, its answer is a plain struct.
 ghost use lib.ListN.{length};
-ghost use Rattle.pass.specs.Pass.{lent};
+ghost use Rattle.laying.specs.Laid.{lent};
 ghost use Rattle.records.specs.Items.{numbersOf, codesOf};
 ghost use Rattle.passexports.specs.Passed.{PassedFromC};
 use container::Container;

@@ -7,11 +7,11 @@ use Rattle.refusal.specs.declared.Answer.{Answer}
 use Rattle.mainaxis.specs.MainCall as main
 use Rattle.crosschecks.specs.declared.numbers.CrossNumbers.{CrossNumbers}
 use Rattle.linesize.specs.CrossSize.{Items}
-use Rattle.crosscalls.specs.declared.size_call.SizeAnswer.{SizeAnswer}
-use Rattle.crosscalls.specs.declared.line_call.LinesAnswer.{LinesAnswer}
-use Rattle.crosscalls.specs.SizeCall as size
-use Rattle.crosscalls.specs.LineCall as lines
-use Rattle.crosscalls.specs.AcrossCall as across
+use Rattle.sizecall.specs.declared.SizeAnswer.{SizeAnswer}
+use Rattle.linescall.specs.declared.LinesAnswer.{LinesAnswer}
+use Rattle.sizecall.specs.SizeCall as size
+use Rattle.linescall.specs.LinesCall as lines
+use Rattle.acrosscall.specs.AcrossCall as across
 use Rattle.crossing.specs.declared.CAnswer.{CAnswer}
 use Rattle.crossing.specs.Crossing.{cAnswer}
 use Rattle.placeexports.specs.declared.CSized.{CSized}

@@ -3,10 +3,10 @@
 use mathlib.Core.Path.{_≡_, sym, ap, _∙_}
 use mathlib.Core.List.{List}
 use lib.Ieee.{Float}
-use Rattle.crosscalls.specs.declared.size_call.SizeAnswer.{SizeAnswer}
+use Rattle.sizecall.specs.declared.SizeAnswer.{SizeAnswer}
 use Rattle.mainaxis.specs.MainCall.{MainResult}
-use Rattle.crosscalls.specs.LineCall.{LinesResult}
-use Rattle.crosscalls.specs.AcrossCall.{AcrossResult}
+use Rattle.linescall.specs.LinesCall.{LinesResult}
+use Rattle.acrosscall.specs.AcrossCall.{AcrossResult}
 use Rattle.crossing.specs.declared.CAnswer.{CAnswer}
 use Rattle.placeexports.specs.declared.CSized.{CSized}
 use Rattle.placeexports.specs.Placed.{cLine, CMain, cMain, mainFromC, CAligned, cAligned, linesFromC, CAcross, cAcross, acrossFromC}

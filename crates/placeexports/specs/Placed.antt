@@ -3,12 +3,12 @@ use mathlib.Core.List.{List}
 use lib.Ieee.{Float, binary32, ofBits}
 use Rattle.refusal.specs.Domain.{refusalOf}
 use Rattle.mainaxis.specs.MainCall.{MainResult}
-use Rattle.crosscalls.specs.declared.size_call.SizeAnswer.{SizeAnswer}
-use Rattle.crosscalls.specs.declared.size_call.SizeAnswer.the-variants as size
-use Rattle.crosscalls.specs.declared.line_call.LinesAnswer.{LinesAnswer}
-use Rattle.crosscalls.specs.declared.line_call.LinesAnswer.the-variants as lines
-use Rattle.crosscalls.specs.LineCall.{LinesResult}
-use Rattle.crosscalls.specs.AcrossCall.{AcrossResult}
+use Rattle.sizecall.specs.declared.SizeAnswer.{SizeAnswer}
+use Rattle.sizecall.specs.declared.SizeAnswer.the-variants as size
+use Rattle.linescall.specs.declared.LinesAnswer.{LinesAnswer}
+use Rattle.linescall.specs.declared.LinesAnswer.the-variants as lines
+use Rattle.linescall.specs.LinesCall.{LinesResult}
+use Rattle.acrosscall.specs.AcrossCall.{AcrossResult}
 use Rattle.crossing.specs.declared.CAnswer.{CAnswer}
 use Rattle.crossing.specs.Crossing.{crossed, cAnswer}
 use Rattle.placeexports.specs.declared.CSized.{CSized}

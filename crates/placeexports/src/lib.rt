@@ -3,14 +3,14 @@ ghost use mathlib.Core.Path.{_≡_};
 ghost use Rattle.mainaxis.specs.MainAxis.{line};
 ghost use Rattle.mainaxis.specs.MainCall.{mainCall};
 ghost use Rattle.linesize.specs.CrossSize.{items};
-ghost use Rattle.crosscalls.specs.SizeCall.{sizeCall};
-ghost use Rattle.crosscalls.specs.LineCall.{linesCall};
-ghost use Rattle.crosscalls.specs.AcrossCall.{acrossCall};
+ghost use Rattle.sizecall.specs.SizeCall.{sizeCall};
+ghost use Rattle.linescall.specs.LinesCall.{linesCall};
+ghost use Rattle.acrosscall.specs.AcrossCall.{acrossCall};
 ghost use Rattle.placeexports.specs.Placed.{cSize, cNothing, cLine, cLines, cMain, mainFromC, cAligned, linesFromC, cAcross, acrossFromC};
-use crosscalls::line_call::LinesAnswer;
-use crosscalls::size_call::SizeAnswer;
 use crosschecks::numbers::CrossNumbers;
 use crossing::CAnswer;
+use linescall::LinesAnswer;
+use sizecall::SizeAnswer;
 
 // Number and place as in CAnswer; then a line's cross size, or the container's inner one. It is 0.0 on refusal.
 #[repr(C)]
@@ -110,7 +110,7 @@ pub extern "C" fn fratolivem_line_size<'a>(
 ) -> CSized
     ensures { λ r. ⌜ r ≡ cLine (sizeCall c (items (now (measured .entry)) (now (minimum .entry)) (now (maximum .entry)) (now («has_maximum» .entry)) (now (edges .entry)) (now (start .entry)) (now (end .entry)) (now («auto_start» .entry)) (now («auto_end» .entry)))) ⌝ }
 {
-    line_to_c(crosscalls::size_call::size_line(
+    line_to_c(sizecall::size_line(
         c,
         measured,
         minimum,
@@ -135,7 +135,7 @@ pub extern "C" fn fratolivem_place_lines(
 ) -> CSized
     ensures { λ r. ⌜ cAligned r (now (sizes .exit)) (now (offsets .exit)) ≡ linesFromC (linesCall c «align_content» (now (lines .entry)) (now (sizes .entry)) (now (offsets .entry))) ⌝ }
 {
-    lines_to_c(crosscalls::line_call::place_lines(c, align_content, lines, sizes, offsets))
+    lines_to_c(linescall::place_lines(c, align_content, lines, sizes, offsets))
 }
 
 #[no_mangle]
@@ -160,7 +160,7 @@ pub extern "C" fn fratolivem_place_across<'a>(
 ) -> CAnswer
     ensures { λ r. ⌜ cAcross r (now (sizes .exit)) (now («used_start» .exit)) (now («used_end» .exit)) (now (offsets .exit)) ≡ acrossFromC (acrossCall line reversed (items (now (measured .entry)) (now (minimum .entry)) (now (maximum .entry)) (now («has_maximum» .entry)) (now (edges .entry)) (now (start .entry)) (now (end .entry)) (now («auto_start» .entry)) (now («auto_end» .entry))) (now («align_self» .entry)) (now («auto_size» .entry)) (now (sizes .entry)) (now («used_start» .entry)) (now («used_end» .entry)) (now (offsets .entry))) ⌝ }
 {
-    crossing::to_c(crosscalls::across_call::place_across(
+    crossing::to_c(acrosscall::place_across(
         line,
         reversed,
         measured,

@@ -1,8 +1,8 @@
 // Boundary cases of the break limit and of greedy breaking, one to a line: what they are given, and number and place, or lines and counts.
-use breaking::AvailableSpace;
-use breaking::Bound;
-use breaking::BreakLimit;
-use breaking::Query;
+use breaklimit::AvailableSpace;
+use breaklimit::Bound;
+use breaklimit::BreakLimit;
+use breaklimit::Query;
 use refusal::Answer;
 use refusal::Place;
 use refusal::Refusal;
@@ -58,7 +58,7 @@ fn space(limit: AvailableSpace) {
 
 fn limit(name: &[u8], q: Query) {
     say(name);
-    match breaking::break_limit(q) {
+    match breaklimit::break_limit(q) {
         BreakLimit::Limit(l) => space(l),
         BreakLimit::Refused(why) => refused(why),
     }

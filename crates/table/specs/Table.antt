@@ -7,7 +7,7 @@ use Prim.Native.Nat.{ℕ, _*_}
 use lib.ListN.{length, drop}
 use lib.IntN.{ℤ, pos}
 use lib.Ieee.{Float, inf, binary32, ofInt, ofBits}
-use Rattle.breaking.specs.declared.Bound.the-variants.{Absent, Given}
+use Rattle.breaklimit.specs.declared.Bound.the-variants.{Absent, Given}
 use Rattle.breaking.specs.Breaking.{Limit, definite, max-content, greedy}
 use Rattle.rule.specs.Rule.{Balanced}
 use Rattle.flexing.specs.declared.Item.{Item}

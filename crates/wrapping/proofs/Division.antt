@@ -13,7 +13,7 @@ use mir.Syntax.{w32}
 use mir.Val.{Fits}
 use Rattle.grid.specs.Grid.{sixtyFourths}
 use Rattle.refusal.specs.Marks.{sumUpTo}
-use Rattle.breaking.specs.declared.AvailableSpace.{AvailableSpace}
+use Rattle.breaklimit.specs.declared.AvailableSpace.{AvailableSpace}
 use Rattle.breaking.specs.Breaking.{Limit, limitOf, greedy}
 use Rattle.breaking.specs.Calls.{units, written}
 use Rattle.breaking.proofs.Lines.{total, greedy-total, greedy-positive}

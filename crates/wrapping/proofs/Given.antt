@@ -13,7 +13,7 @@ use lib.Ieee.{Float, nan}
 use Rattle.grid.specs.Grid.{At, Length, sixtyFourths}
 use Rattle.grid.proofs.Meaning.{grid-of-at}
 use Rattle.refusal.specs.Marks.{sumUpTo}
-use Rattle.breaking.specs.declared.AvailableSpace.{AvailableSpace}
+use Rattle.breaklimit.specs.declared.AvailableSpace.{AvailableSpace}
 use Rattle.breaking.specs.Calls.{units}
 use Rattle.breaking.specs.Steps.{LengthLimit, Breakable}
 use Rattle.flexing.specs.declared.Item.{Item}

@@ -8,7 +8,7 @@ use lib.Dec.{T, leb, le→leb}
 use lib.ListN.{length}
 use lib.Ieee.{Float, binary64, ofBits}
 use Rattle.grid.specs.Grid.{sixtyFourths}
-use Rattle.breaking.specs.declared.AvailableSpace.{AvailableSpace}
+use Rattle.breaklimit.specs.declared.AvailableSpace.{AvailableSpace}
 use Rattle.breaking.specs.Breaking.{limitOf, greedy}
 use Rattle.breaking.specs.Calls.{units}
 use Rattle.breaking.specs.Steps.{Listed, filled, cleared}

@@ -5,7 +5,7 @@ use Prim.Native.Nat.{ℕ, zero, suc, _+_, _*_, _≤_}
 use lib.ListN.{length}
 use lib.Ieee.{Float}
 use Rattle.grid.specs.Grid.{sixtyFourths}
-use Rattle.breaking.specs.declared.AvailableSpace.{AvailableSpace}
+use Rattle.breaklimit.specs.declared.AvailableSpace.{AvailableSpace}
 use Rattle.breaking.specs.Breaking.{limitOf, greedy}
 use Rattle.breaking.specs.Calls.{units, written}
 use Rattle.rule.specs.Rule as rule

@@ -12,7 +12,7 @@ use Rattle.grid.specs.Grid.{sixtyFourths}
 use Rattle.refusal.specs.declared.Verdict.{Verdict}
 use Rattle.refusal.specs.declared.Answer.the-variants.{Done}
 use Rattle.refusal.specs.Marks.{leastOf}
-use Rattle.breaking.specs.declared.AvailableSpace.{AvailableSpace}
+use Rattle.breaklimit.specs.declared.AvailableSpace.{AvailableSpace}
 use Rattle.breaking.specs.Breaking.{limitOf}
 use Rattle.breaking.specs.Breaking as breaking
 use Rattle.breaking.specs.Calls.{breakingVerdict, units, broken, brokenInto}

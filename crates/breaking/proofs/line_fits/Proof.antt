@@ -5,7 +5,7 @@ use native.Mathlib.Nat.{zero-lt-suc}
 use Rattle.grid.specs.Grid.{Length}
 use Rattle.grid.proofs.Exact.{le-at}
 use Rattle.grid.proofs.Meaning.{at-of-grid}
-use Rattle.breaking.specs.declared.AvailableSpace.{AvailableSpace}
+use Rattle.breaklimit.specs.declared.AvailableSpace.{AvailableSpace}
 use Rattle.breaking.specs.Breaking.{limitOf, fits}
 use Rattle.breaking.specs.Steps.{LengthLimit}
 use Rattle.breaking.proofs.line_fits.Statement.{statement}

@@ -4,12 +4,12 @@ use mathlib.Core.Path.{sym, ap, _∙_}
 use Prim.Native.Nat.{zero-le}
 use Rattle.refusal.specs.Domain.{code}
 use Rattle.refusal.proofs.Checks.{least-one}
-use Rattle.breaking.specs.declared.AvailableSpace.{AvailableSpace}
+use Rattle.breaklimit.specs.declared.AvailableSpace.{AvailableSpace}
 use Rattle.breaking.specs.Calls.{breakingVerdict}
 use Rattle.balance.specs.Calls.{Lent, lent}
 use Rattle.balance.proofs.Call.{verdict-is}
 use Rattle.crossing.specs.Crossing.{cAnswer}
-use Rattle.breaking.specs.Limit.{spaceOf}
+use Rattle.breaklimit.specs.Limit.{spaceOf}
 use Rattle.fratolivem.specs.Boundary.{kindNumber}
 use Rattle.fratolivem.proofs.Codes.{balanced-unnamed, balanced-named}
 use borrow.Author.Needs.{needs}

@@ -1,12 +1,12 @@
 -- `fratolivem::fratolivem_break_limit` meets its contract: codes, space and bounds make the query, and the call inside answers it. Assumes nothing.
 use mathlib.Core.Path.{_≡_, ap, ap₂, _∙_}
 use Rattle.refusal.specs.declared.Verdict.{Verdict}
-use Rattle.breaking.specs.declared.Query.{Query}
-use Rattle.breaking.specs.Limit.{limitFrom, limitVerdict, spaceOf}
+use Rattle.breaklimit.specs.declared.Query.{Query}
+use Rattle.breaklimit.specs.Limit.{limitFrom, limitVerdict, spaceOf}
 use Rattle.fratolivem.specs.Boundary.{Asked, askedCodes, queryOf, cLimit, boundOf, flag, limitFromC}
 use Rattle.fratolivem.specs.declared.CLimit.{CLimit}
-use Rattle.breaking.specs.declared.AvailableSpace.{AvailableSpace}
-use Rattle.breaking.specs.declared.Bound.{Bound}
+use Rattle.breaklimit.specs.declared.AvailableSpace.{AvailableSpace}
+use Rattle.breaklimit.specs.declared.Bound.{Bound}
 use borrow.Author.Needs.{needs}
 use Rattle.fratolivem.proofs.fratolivem_break_limit.Statement.{statement}
 use Rattle.fratolivem.proofs.fratolivem_break_limit.Tie as tie

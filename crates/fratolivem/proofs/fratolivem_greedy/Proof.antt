@@ -7,7 +7,7 @@ use lib.Dec.{leb}
 use lib.ListN.{length}
 use Rattle.refusal.specs.Domain.{code}
 use Rattle.refusal.proofs.Checks.{least-one}
-use Rattle.breaking.specs.declared.AvailableSpace.{AvailableSpace}
+use Rattle.breaklimit.specs.declared.AvailableSpace.{AvailableSpace}
 use Rattle.breaking.specs.Calls.{breakingVerdict, Broken, greedyCall}
 use Rattle.crossing.specs.Crossing.{cAnswer}
 use Rattle.fratolivem.specs.Boundary.{kindNumber}

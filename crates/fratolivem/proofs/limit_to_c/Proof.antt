@@ -1,7 +1,7 @@
 -- `fratolivem::limit_to_c` meets its contract, by the two cases of a verdict. Assumes nothing.
 use mathlib.Core.Path.{_≡_, sym, ap, _∙_}
 use Rattle.refusal.specs.declared.Verdict.{Verdict}
-use Rattle.breaking.specs.Limit.{limitFrom}
+use Rattle.breaklimit.specs.Limit.{limitFrom}
 use Rattle.fratolivem.specs.Boundary.{cSpace, cRefused, cLimit}
 use borrow.Author.Needs.{needs}
 use Rattle.fratolivem.proofs.limit_to_c.Statement.{statement}

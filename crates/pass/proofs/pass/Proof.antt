@@ -3,9 +3,8 @@ use mathlib.Core.Path.{refl, sym, _∙_}
 use lib.ListN.{length}
 use denote.Ref.{now}
 use Rattle.passchecks.specs.Checks.{passRoom}
-use Rattle.pass.specs.Pass.{lent}
-use Rattle.pass.proofs.AcceptLaws.{refused-so, passed-so, sound-so}
-use Rattle.pass.proofs.LaidLaws.{answered-as}
+use Rattle.laying.specs.Laid.{lent}
+use Rattle.pass.proofs.AcceptLaws.{refused-so, passed-so, sound-so, answered-as}
 use borrow.Author.Needs.{needs}
 use Rattle.pass.proofs.pass.Statement.{statement}
 use Rattle.pass.proofs.pass.Tie as tie

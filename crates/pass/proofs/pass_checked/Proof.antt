@@ -12,9 +12,8 @@ use Rattle.refusal.proofs.Checks.{summed-passed}
 use Rattle.flexing.specs.Flex.{outerSum}
 use Rattle.rounds.specs.Cells.{Wide, itemsIn}
 use Rattle.passchecks.specs.Checks.{passSum}
-use Rattle.pass.specs.Pass.{lent}
-use Rattle.pass.proofs.AcceptLaws.{wide-of, items-in, listed-of, gap-is, table-is, accepted-of}
-use Rattle.pass.proofs.LaidLaws.{answered-as}
+use Rattle.laying.proofs.LaidLaws.{items-in}
+use Rattle.pass.proofs.AcceptLaws.{wide-of, listed-of, gap-is, table-is, accepted-of}
 use borrow.Author.Needs.{needs}
 use Rattle.pass.proofs.pass_checked.Statement.{statement}
 use Rattle.pass.proofs.pass_checked.Tie as tie
@@ -22,8 +21,8 @@ use Rattle.pass.proofs.pass_checked.Reads as reads
 use Rattle.pass.proofs.pass_checked.Lts as lts
 use Rattle.rounds.proofs.sum.outer_sum.Reads as outer-sum-reads
 use Rattle.grid.proofs.clean.Reads as clean-reads
-use Rattle.pass.proofs.stages.lay_out.Reads as lay-out-reads
-use Rattle.pass.proofs.stages.read_main.Reads as read-main-reads
+use Rattle.laying.proofs.lay_out.Reads as lay-out-reads
+use Rattle.mainstage.proofs.reading.read_main.Reads as read-main-reads
 use Rattle.refusal.proofs.check_sum.Reads as check-sum-reads
 
 slice-aggregate-read-main : tie.Need-slice-aggregate-read-main
@@ -105,10 +104,7 @@ same-length-7 : tie.Need-same-length-7
 same-length-7 c = c .before .before .before .before .before .before .before .before .before .before .before .before .before .lay-out .kept .1 .1 .1 .1 .1 .1 .1 .1 .1 .1 .1 .0
 
 returns-2 : tie.Need-returns-2
-returns-2 c = let a = c .before .before .before .before .before .before .before .before .before .before .before .before .before .before .before .before .before .before .before .before .before .before .before .before .before .before .before .before .before .before .before .before .before .before .before .before .before .before .before .args in
-    let f = c .before .before .before .before .before .before .before .before .before .before .before .before .before .lay-out in
-    answered-as (a .c) (a .n) (now (a .numbers)) (now (a .codes)) (lent (now (a .placed)) (now (a .lines)) (now (a .counts)) (now (a .rounds)) (now (a .free)) (now (a .work)) (now (a .sums))) (f .result) (lent (f .last .1 .1 .1 .1 .1 .0) (f .last .1 .1 .1 .1 .1 .1 .0) (f .last .1 .1 .1 .1 .1 .1 .1 .0) (f .last .1 .1 .1 .1 .1 .1 .1 .1 .0) (f .last .1 .1 .1 .1 .1 .1 .1 .1 .1 .0) (f .last .1 .1 .1 .1 .1 .1 .1 .1 .1 .1 .0) (f .last .1 .1 .1 .1 .1 .1 .1 .1 .1 .1 .1 .0))
-    (sym (sym (ap summed (pass-sum (c .before .before .before .before .before .before .before .before .before .before .before .before .before .before .before .before .before .before .before .before .before .before .before .before .before))) ∙ sym (c .before .before .before .before .before .before .before .before .before .before .before .before .before .before .before .before .before .before .before .before .before .before .before .before .check-sum .ensures) ∙ c .before .before .before .before .before .before .before .before .before .before .before .before .before .before .before .before .before .before .before .before .before .before .enum-told .given .1)) (f .ensures)
+returns-2 c = (sym (ap summed (pass-sum (c .before .before .before .before .before .before .before .before .before .before .before .before .before .before .before .before .before .before .before .before .before .before .before .before .before))) ∙ sym (c .before .before .before .before .before .before .before .before .before .before .before .before .before .before .before .before .before .before .before .before .before .before .before .before .check-sum .ensures) ∙ c .before .before .before .before .before .before .before .before .before .before .before .before .before .before .before .before .before .before .before .before .before .before .enum-told .given .1, c .before .before .before .before .before .before .before .before .before .before .before .before .before .lay-out .ensures)
 
 pub pass-checked-spec : {M : Type 1} → statement M
 pass-checked-spec =

@@ -46,7 +46,7 @@ use denote.Triple.Clauses.{ensured, lasts}
 use denote.Triple.Table.{entered, cited}
 use denote.Triple.Walked.{says, Stays, stay-none, stay-none-slice, gave-slice, walkOf, Walks, ends-at, walked, goes-none, goes-none-slice, goes-gave-slice, walk-meets}
 use Rattle.container.specs.declared.Container.{Container}
-use Rattle.pass.specs.Pass.{Lent, lent}
+use Rattle.laying.specs.Laid.{Lent, lent}
 use Rattle.container.proofs.Container as Co
 use Rattle.container.proofs.Container.Laws as Co′
 use Rattle.records.specs.declared.Item.{Item}

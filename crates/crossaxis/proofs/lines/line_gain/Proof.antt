@@ -1,7 +1,7 @@
 -- `crossaxis::lines::line_gain` meets its contract: the code's test is the definition's. Assumes nothing.
 use mathlib.Core.Path.{sym, ap, _∙_}
 use mathlib.Core.Bool.{Bool, cond}
-use Rattle.breaking.specs.declared.Bound.{Bound}
+use Rattle.breaklimit.specs.declared.Bound.{Bound}
 use Rattle.grid.specs.Floats.{nought}
 use Rattle.crossaxis.specs.Lines.{gainTo, stretchTarget, gain}
 use borrow.Author.Needs.{needs}

@@ -1,0 +1,51 @@
+-- `break_limit` meets its contract: with no codes before them the checks are the definition's, and past them the limit is. Assumes nothing.
+use mathlib.Core.Path.{_≡_, refl, sym, ap, _∙_}
+use mathlib.Core.List.{[]}
+use Rattle.refusal.specs.declared.Verdict.{Verdict}
+use Rattle.refusal.specs.Marks.{leastOf}
+use Rattle.breaklimit.specs.declared.BreakLimit.the-variants.{Limit}
+use Rattle.breaklimit.specs.Limit.{limitFrom, limitVerdict}
+use borrow.Author.Needs.{needs}
+use Rattle.breaklimit.proofs.break_limit.Statement.{statement}
+use Rattle.breaklimit.proofs.break_limit.Tie as tie
+
+no-mark-requires : tie.Need-no-mark-requires
+no-mark-requires c κs = search needs
+
+check-limit-requires : tie.Need-check-limit-requires
+check-limit-requires c κs = search needs
+
+enum-known-why : tie.Need-enum-known-why
+enum-known-why c = search needs
+
+enum-told : tie.Need-enum-told
+enum-told c = search needs
+
+limit-of-requires : tie.Need-limit-of-requires
+limit-of-requires c κs = search needs
+
+verdict : (c : tie.After-check-limit) → c .check-limit .result ≡ limitVerdict [] (c .before .before .args .q)
+unfolding leastOf
+verdict c = c .check-limit .ensures [] (c .before .no-mark .ensures)
+
+returns : tie.Need-returns
+returns c =
+    let q = c .before .before .before .before .before .args .q in
+    sym (ap (λ (v : Verdict). limitFrom v q) (sym (verdict (c .before .before .before)) ∙ c .before .why .given .1))
+
+returns-2 : tie.Need-returns-2
+returns-2 c =
+    let q = c .before .before .before .before .before .args .q in
+    ap Limit (c .limit-of .ensures) ∙ sym (ap (λ (v : Verdict). limitFrom v q) (sym (verdict (c .before .before .before)) ∙ c .before .enum-told .given .1))
+
+pub break-limit-spec : {M : Type 1} → statement M
+break-limit-spec =
+    tie.close
+    (tie.spec
+    no-mark-requires
+    check-limit-requires
+    enum-known-why
+    enum-told
+    limit-of-requires
+    returns
+    returns-2)

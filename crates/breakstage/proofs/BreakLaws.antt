@@ -1,0 +1,66 @@
+-- Breaking the items of a table: by equal values, and the lines read back out of the counts. Assumes nothing.
+use mathlib.Core.Path.{_≡_, refl, sym, ap, _∙_, subst}
+use mathlib.Core.List.{List}
+use Prim.Native.Nat.{ℕ, _≤_}
+use native.Mathlib.Nat.{le-trans, le-of-eq}
+use lib.ListN.{length, take}
+use lib.Ieee.{Float}
+use Rattle.grid.specs.Grid.{cleaned}
+use Rattle.breaklimit.specs.declared.AvailableSpace.{AvailableSpace}
+use Rattle.breaking.specs.Calls.{written}
+use Rattle.breaking.specs.Steps.{Breakable}
+use Rattle.rounds.specs.Cells.{itemsIn}
+use Rattle.wrapping.specs.declared.Mode.{Mode}
+use Rattle.wrapping.specs.declared.Mode.the-variants.{Single, Greedy, Balanced}
+use Rattle.wrapping.specs.Wrapping as wrapping
+use Rattle.wrapping.specs.Wrapping.{Lent, Room, Wrapped}
+use Rattle.wrapping.specs.Outer.{outerSizes}
+use Rattle.wrapping.proofs.Given.{sizes-long}
+use Rattle.wrapping.proofs.Division.{Divides, lines-divide, read-back}
+use Rattle.container.specs.declared.Container.{Container}
+use Rattle.container.specs.Container.{limitOf}
+use Rattle.breakstage.specs.BreakStage.{modeOf, Broken}
+
+-- ---- breaking
+
+module _ {m m' : Mode} {l l' : AvailableSpace} {g g' : Float} {s s' : List Float} (b : Lent) (p : m ≡ m') (q : l ≡ l') (t : g ≡ g') (e : s ≡ s') where
+  pub breaks-as : {n : ℕ} → length s' ≡ n → Breakable l' g' s' → Room m' n b → Breakable l g s × Room m (length s) b
+  breaks-as {n} h d r = (
+    subst (λ (y : AvailableSpace). Breakable y g s) (sym q) (subst (λ (y : Float). Breakable l' y s) (sym t) (subst (λ (y : List Float). Breakable l' g' y) (sym e) d)),
+    subst (λ (k : ℕ). Room m k b) (sym (ap length e ∙ h)) (subst (λ (y : Mode). Room y n b) (sym p) r),
+  )
+
+  pub broken-as : {k r : ℕ} {a : Lent} → Wrapped m l g k s b r a → Wrapped m' l' g' k s' b r a
+  broken-as {k} {r} {a} w =
+      subst (λ (y : List Float). Wrapped m' l' g' k y b r a) e (subst (λ (y : Float). Wrapped m' l' y k s b r a) t (subst (λ (y : AvailableSpace). Wrapped m' y g k s b r a) q (subst (λ (y : Mode). Wrapped y l g k s b r a) p w)))
+
+-- ---- the lines, read back
+
+listed-counts : (mode : Mode) (n : ℕ) (lines : List ℕ) (b : Lent) → wrapping.listed mode n lines b .counts ≡ written n lines (b .counts)
+listed-counts Single n lines b = refl
+listed-counts Greedy n lines b = refl
+listed-counts Balanced n lines b = refl
+
+module _ (mode : Mode) (limit : AvailableSpace) (gap : Float) (minimum : ℕ) (sizes : List Float) {b a : Lent} {k : ℕ} (w : Wrapped mode limit gap minimum sizes b k a) where
+  wrapped-back : take k (a .counts) ≡ w .lines
+  wrapped-back =
+      ap (λ (j : ℕ). take j (a .counts)) (w .number)
+      ∙ ap (take (length (w .lines))) (ap (λ (l : Lent). l .counts) (w .cells) ∙ listed-counts mode (length sizes) (w .lines) b)
+      ∙ read-back (length sizes) (w .lines) (b .counts)
+
+  -- they divide the items
+  pub wrapped-divides : Divides (length sizes) (take k (a .counts))
+  wrapped-divides = subst (Divides (length sizes)) (sym wrapped-back) (lines-divide limit gap minimum sizes mode (w .lines) (w .lines-are))
+
+module _ (c : Container) (n : ℕ) (t : List Float) {b a : Lent} {k : ℕ} (w : Broken c n t b k a) where
+  lines-back : take k (a .counts) ≡ w .lines
+  lines-back = wrapped-back (modeOf (c .wrap)) (limitOf c) (cleaned (c .«gap_main»)) (c .«minimum_lines») (outerSizes (itemsIn t 0 n)) w
+
+  pub divides-of : Divides n (take k (a .counts))
+  divides-of = subst (λ (m : ℕ). Divides m (take k (a .counts))) (sizes-long t n) (wrapped-divides (modeOf (c .wrap)) (limitOf c) (cleaned (c .«gap_main»)) (c .«minimum_lines») (outerSizes (itemsIn t 0 n)) w)
+
+  pub lines-long : length (take k (a .counts)) ≡ k
+  lines-long = ap length lines-back ∙ sym (w .number)
+
+  pub lines-few : k ≤ n
+  lines-few = le-trans {m = length (take k (a .counts))} (le-of-eq (sym lines-long)) (divides-of .few)

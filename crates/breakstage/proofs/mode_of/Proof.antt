@@ -1,0 +1,18 @@
+-- By its tests. Assumes nothing.
+use borrow.Author.Tests.{eq-eqb, ne-eqb, lt-ltb, le-ltb}
+use Rattle.breakstage.proofs.mode_of.Statement.{statement}
+use Rattle.breakstage.proofs.mode_of.Tie as tie
+use Rattle.breakstage.proofs.mode_of.Reads as reads
+use Rattle.breakstage.proofs.mode_of.Lts as lts
+
+returns : tie.Need-returns
+returns c = simp (eq-eqb _ _ (c .if1 .taken))
+
+returns-2 : tie.Need-returns-2
+returns-2 c = simp (ne-eqb _ _ (c .before .if1 .left), lt-ltb _ _ (c .if2 .taken))
+
+returns-3 : tie.Need-returns-3
+returns-3 c = simp (ne-eqb _ _ (c .before .if1 .left), le-ltb _ _ (c .if2 .left))
+
+pub mode-of-spec : {M : Type 1} → statement M
+mode-of-spec = tie.close (tie.spec returns returns-2 returns-3)

@@ -1,0 +1,47 @@
+// The lines of the whole pass (document 01, "Breaking"), of the items that the table holds.
+ghost use mathlib.Core.Path.{_≡_};
+ghost use Rattle.wrapping.specs.Wrapping as wrapping;
+ghost use Rattle.breakstage.specs.BreakStage.{modeOf, Breaks, Broken};
+use breaklimit::space_of;
+use container::Container;
+use wrapping::Mode;
+use wrapping::break_lines;
+use wrapping::outer_sizes;
+
+fn mode_of(wrap: u32) -> Mode
+    ensures { λ r. ⌜ r ≡ modeOf wrap ⌝ }
+{
+    if wrap == 0 {
+        return Mode::Single;
+    }
+    if wrap < 3 {
+        return Mode::Greedy;
+    }
+    Mode::Balanced
+}
+
+// The lines of a table's items, by the wrap mode: counts by line, and how many lines there are. No entry point: it asks what the checks show.
+pub fn break_items(
+    c: Container,
+    n: usize,
+    table: &[f32],
+    counts: &mut [u32],
+    work: &mut [u32],
+    sums: &mut [f64],
+) -> usize
+    requires { ⌜ Breaks c n (now table) (wrapping.lent (now counts) (now work) (now sums)) ⌝ }
+    ensures { λ r. ⌜ Broken c n (now (table .entry)) (wrapping.lent (now (counts .entry)) (now (work .entry)) (now (sums .entry))) r (wrapping.lent (now (counts .exit)) (now (work .exit)) (now (sums .exit))) ⌝ }
+{
+    let mut sizes = [0.0; 1024];
+    outer_sizes(table, n, &mut sizes);
+    break_lines(
+        mode_of(c.wrap),
+        space_of(c.limit_kind, c.limit),
+        grid::clean(c.gap_main),
+        c.minimum_lines,
+        &sizes[..n],
+        counts,
+        work,
+        sums,
+    )
+}

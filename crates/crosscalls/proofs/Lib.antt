@@ -1,3 +1,0 @@
-pub mod SizeCalled
-pub mod LineCalled
-pub mod AcrossCalled

@@ -1,3 +1,0 @@
-pub mod SizeCall
-pub mod LineCall
-pub mod AcrossCall

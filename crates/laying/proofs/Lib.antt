@@ -1,0 +1,3 @@
+pub mod LaidLaws
+pub mod LineAlone
+pub mod OneLaid

@@ -1,0 +1,62 @@
+-- "In accepted runs a line's targets, rounds and main offsets depend only on the container, the line ranges and its own items": two runs in one container
+-- that agree on a line's items, and on nothing else, say the same of it. By the same of flexing and of the main axis. Assumes nothing.
+use mathlib.Core.Path.{_≡_, sym, ap, _∙_}
+use mathlib.Core.List.{List}
+use Prim.Native.Nat.{ℕ, _+_, _<_}
+use native.Mathlib.Omega.{arith}
+use lib.ListN.{length, getD, take, drop}
+use lib.Seq.{getD-take, getD-drop}
+use lib.Ieee.{Float, nan}
+use Rattle.grid.specs.Floats.{each}
+use Rattle.flexing.specs.Items.{itemAt}
+use Rattle.rounds.proofs.Each.{each-ext}
+use Rattle.flexlines.specs.Lines.{lineStart, lineItems, part}
+use Rattle.flexlines.proofs.Alone.{SameFlexed, flexed-alone}
+use Rattle.mainlines.proofs.Spacing.{same-line, main-independent}
+use Rattle.container.specs.declared.Container.{Container}
+use Rattle.container.specs.Columns.{column, mainLists}
+use Rattle.laying.specs.Laid.{Lent, Laid}
+
+-- ---- a line's own items
+
+-- so many of them, and the same numbers and codes on the main axis
+pub record SameItems (counts counts' : List ℕ) (j j' n n' : ℕ) (x x' : List Float) (codes codes' : List ℕ) : Type 0 where
+  pub as-many : getD counts j 0 ≡ getD counts' j' 0
+  pub numbers : (k : ℕ) → k < 8 → part counts j (column n k x) ≡ part counts' j' (column n' k x')
+  pub marks : (k : ℕ) → k < 3 → part counts j (column n k codes) ≡ part counts' j' (column n' k codes')
+
+in-part : {A : Type 0} (counts : List ℕ) (j : ℕ) (l : List A) (i : ℕ) (d : A) → i < getD counts j 0 → getD (part counts j l) i d ≡ getD l (lineStart counts j + i) d
+in-part counts j l i d h = getD-take (getD counts j 0) (drop (lineStart counts j) l) i d h ∙ getD-drop (lineStart counts j) l i d
+
+module _ {counts counts' : List ℕ} {j j' n n' : ℕ} {x x' : List Float} {codes codes' : List ℕ} (s : SameItems counts counts' j j' n n' x x' codes codes') where
+  item-same : (i : ℕ) → i < getD counts j 0 → itemAt (mainLists n x codes) (lineStart counts j + i) ≡ itemAt (mainLists n' x' codes') (lineStart counts' j' + i)
+  item-same i h =
+      let h' : i < getD counts' j' 0 = omega (arith, s .as-many) in
+      let g : (k : ℕ) → k < 8 → getD (column n k x) (lineStart counts j + i) nan ≡ getD (column n' k x') (lineStart counts' j' + i) nan
+      = λ k l. sym (in-part counts j (column n k x) i nan h) ∙ ap (λ (y : List Float). getD y i nan) (s .numbers k l) ∙ in-part counts' j' (column n' k x') i nan h' in
+      let m : (k : ℕ) → k < 3 → getD (column n k codes) (lineStart counts j + i) 0 ≡ getD (column n' k codes') (lineStart counts' j' + i) 0
+      = λ k l. sym (in-part counts j (column n k codes) i 0 h) ∙ ap (λ (y : List ℕ). getD y i 0) (s .marks k l) ∙ in-part counts' j' (column n' k codes') i 0 h' in
+      cc (g 0 (omega arith), g 1 (omega arith), g 2 (omega arith), g 3 (omega arith), g 4 (omega arith), g 5 (omega arith), g 6 (omega arith), g 7 (omega arith), m 0 (omega arith), m 1 (omega arith), m 2 (omega arith))
+
+  items-same : lineItems (itemAt (mainLists n x codes)) counts j ≡ lineItems (itemAt (mainLists n' x' codes')) counts' j'
+  items-same =
+      each-ext (getD counts j 0) (λ i. itemAt (mainLists n x codes) (lineStart counts j + i)) (λ i. itemAt (mainLists n' x' codes') (lineStart counts' j' + i)) item-same
+      ∙ ap (λ (k : ℕ). each k (λ i. itemAt (mainLists n' x' codes') (lineStart counts' j' + i))) (s .as-many)
+
+-- ---- a line by itself
+
+-- what two runs say of a line: its free space and rounds, and of its items targets, offsets and used margins
+pub record SameLine (counts counts' : List ℕ) (j j' n n' : ℕ) (a a' : Lent) : Type 0 where
+  pub flexed : SameFlexed counts counts' j j' (column n 0 (a .placed)) (column n' 0 (a' .placed)) (a .free) (a' .free) (a .rounds) (a' .rounds)
+  pub offsets : part counts j (column n 1 (a .placed)) ≡ part counts' j' (column n' 1 (a' .placed))
+  pub starts : part counts j (column n 2 (a .placed)) ≡ part counts' j' (column n' 2 (a' .placed))
+  pub ends : part counts j (column n 3 (a .placed)) ≡ part counts' j' (column n' 3 (a' .placed))
+
+pub pass-independent : (c : Container) {n n' : ℕ} {x x' : List Float} {codes codes' : List ℕ} {b b' a a' : Lent} {k k' sum sum' : ℕ} {inner inner' : Float}
+    → Laid c n x codes b k sum inner a → Laid c n' x' codes' b' k' sum' inner' a'
+    → (j j' : ℕ) → j < length (take k (a .counts)) → j' < length (take k' (a' .counts)) → SameItems (take k (a .counts)) (take k' (a' .counts)) j j' n n' x x' codes codes'
+    → SameLine (take k (a .counts)) (take k' (a' .counts)) j j' n n' a a'
+pass-independent c p q j j' h h' s =
+    let f = flexed-alone (p .flexed) (q .flexed) j j' h h' (items-same s) in
+    let m = main-independent (p .spaced) (q .spaced) j j' h h' (same-line (f .targets-same) (s .numbers 6 (omega arith)) (s .numbers 7 (omega arith)) (s .marks 1 (omega arith)) (s .marks 2 (omega arith))) in
+    record { flexed = f; offsets = m .offsets-same; starts = m .starts-same; ends = m .ends-same }

@@ -1,0 +1,52 @@
+-- The call for a container's lines: what it takes, checks and answers. Assumes nothing.
+use mathlib.Core.List.{List, [], _∷_}
+use Prim.Native.Nat.{ℕ}
+use lib.ListN.{length}
+use lib.Ieee.{Float}
+use Rattle.refusal.specs.Domain.{code, Input, checked, then}
+use Rattle.refusal.specs.Shapes.{shapeOf}
+use Rattle.refusal.specs.Lists.{floatAt}
+use Rattle.refusal.specs.declared.Kind.the-variants.{Worked}
+use Rattle.refusal.specs.declared.Verdict.{Verdict}
+use Rattle.refusal.specs.declared.Verdict.the-variants.{Passed}
+use Rattle.refusal.specs.declared.Verdict.the-variants as verdict
+use Rattle.align.specs.Align.{contentOf}
+use Rattle.linesize.specs.declared.container.Cross.{Cross}
+use Rattle.crosschecks.specs.declared.numbers.CrossNumbers.{CrossNumbers}
+use Rattle.linescall.specs.declared.LinesAnswer.{LinesAnswer}
+use Rattle.linescall.specs.declared.LinesAnswer.the-variants.{Placed, Refused}
+use Rattle.linesize.specs.Container.{readCross}
+use Rattle.crosschecks.specs.Numbers.{crossOf, crossNumbers}
+use Rattle.crossaxis.specs.Lines.{innerCross, lineSizes, lineOffsets}
+
+abbrev pub linesInput : CrossNumbers → ℕ → List Float → Input
+linesInput c alignment lines = record {
+  container = code 13 alignment ∷ crossNumbers c;
+  count = length lines;
+  item = λ i. floatAt Worked lines i;
+}
+
+-- checks 1 to 5: a call without main sizes never gives 6
+unfoldable pub linesVerdict : CrossNumbers → ℕ → List Float → List ℕ → Verdict
+linesVerdict c alignment lines rooms = then (shapeOf (length lines ∷ []) rooms (length lines)) (checked (linesInput c alignment lines) Passed)
+
+-- the call's answer, and its lent lists as it returns: the lines' sizes, and their offsets
+pub record LinesResult : Type 0 where
+  pub answer : LinesAnswer
+  pub sizes : List Float
+  pub offsets : List Float
+
+abbrev pub result : LinesAnswer → List Float → List Float → LinesResult
+result r s o = record { answer = r; sizes = s; offsets = o }
+
+-- what the lines of a container come to
+abbrev pub along : Cross → ℕ → List Float → List Float → List Float → LinesResult
+along c alignment lines s o = let a = contentOf alignment in result (Placed (innerCross c a lines)) (lineSizes c a lines s) (lineOffsets c a lines o)
+
+-- a refusal changes no cell
+abbrev pub linesInto : Verdict → CrossNumbers → ℕ → List Float → List Float → List Float → LinesResult
+linesInto (verdict.Refused why) c alignment lines s o = result (Refused why) s o
+linesInto Passed c alignment lines s o = along (readCross (crossOf c)) alignment lines s o
+
+abbrev pub linesCall : CrossNumbers → ℕ → List Float → List Float → List Float → LinesResult
+linesCall c alignment lines s o = linesInto (linesVerdict c alignment lines (length s ∷ length o ∷ [])) c alignment lines s o
