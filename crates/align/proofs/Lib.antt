@@ -1,4 +1,3 @@
-pub mod Counts
 pub mod Each
 pub mod Spread
 pub mod Fallback

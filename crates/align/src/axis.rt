@@ -1,23 +1,11 @@
-// What both axes share: gaps, margins that may be auto, and offsets in the order of the walk.
+// What both axes share: margins that may be auto, and offsets in the order of the walk.
 // No entry points: the lists are of one length, there is room, and there are few items, which checks 1 and 2 have shown.
 ghost use mathlib.Core.Path.{_≡_};
 ghost use Prim.Native.Nat.{_≤_, _<_};
 ghost use lib.ListN.{length};
 ghost use Rattle.align.specs.Lists.{overwritten};
-ghost use Rattle.grid.specs.Floats.{gaps};
 ghost use Rattle.align.specs.Axis.{margin, marginAt, walked, stepped, offsets};
 use crate::ContentAlignment;
-
-// The gaps between n neighbours.
-pub fn sum_axis_gaps(gap: f32, n: usize) -> f32
-    requires { ⌜ n ≤ 1024 ⌝ }
-    ensures { λ r. ⌜ r ≡ gaps gap n ⌝ }
-{
-    if n == 0 {
-        return 0.0;
-    }
-    gap * ((n - 1) as f32)
-}
 
 // A margin, or the share of an auto one. The code is 0 where the margin is given.
 pub fn margin_or(share: f32, auto: u32, x: f32) -> f32

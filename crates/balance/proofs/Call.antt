@@ -1,13 +1,13 @@
 -- The whole call: its verdict, the cells it leaves, and that its contract leaves no choice. Assumes nothing.
 use mathlib.Core.Path.{_≡_, refl, sym, ap, subst, _∙_}
-use mathlib.Core.Bool.{Bool, true, false, true≢false, false≢true, _&&_}
+use mathlib.Core.Bool.{Bool, true, false, true≢false, _&&_}
 use mathlib.Core.Logic.{_⊎_, inl, inr}
 use mathlib.Core.List.{List, [], _∷_, _++_, map, append-assoc}
-use Prim.Native.Nat.{ℕ, _+_, _-_, _*_, _≤_, _<_, min, zero-le}
+use Prim.Native.Nat.{ℕ, _-_, _*_, _≤_, _<_, zero-le}
 use native.Mathlib.Nat.{mul-le-mul}
 use native.Mathlib.Omega.{arith}
 use borrow.Author.Tests.{lt-ltb}
-use lib.Dec.{T, ltb, leb, leb→le}
+use lib.Dec.{T, leb, leb→le}
 use lib.ListN.{length, take, drop, replicate, length-map, length-drop}
 use lib.Seq.{length-take-le}
 use lib.IntN.{ℤ}
@@ -24,11 +24,11 @@ use Rattle.refusal.specs.declared.Answer.the-variants.{Done}
 use Rattle.refusal.specs.declared.Answer.the-variants as answer
 use Rattle.breaklimit.specs.declared.AvailableSpace.{AvailableSpace}
 use Rattle.breaking.specs.Breaking.{Limit, limitOf}
-use Rattle.breaking.specs.Calls.{breakingVerdict, units, written}
+use Rattle.breaking.specs.Calls.{breakingVerdict, units}
 use Rattle.breaking.specs.Steps.{Breakable}
 use Rattle.breaking.proofs.Accepted.{breakable}
-use Rattle.rule.specs.Rule.{floored, Valid, Balanced}
-use Rattle.balance.specs.Calls.{Lent, lent, shortestOf, hasRoom, balancedVerdict, zeroed, zeroedF, worked, Divides, BalancedCall}
+use Rattle.rule.specs.Rule.{floored, Valid}
+use Rattle.balance.specs.Calls.{Lent, lent, shortestOf, hasRoom, balancedVerdict, worked, Divides, BalancedCall}
 use Rattle.division.specs.Divided.{Divided, Cleared, ClearedF}
 use Rattle.rule.proofs.DpLaws.{lt-or-ge}
 use Rattle.rule.proofs.Unique.{balanced-one}

@@ -8,7 +8,7 @@ ghost use Rattle.breaking.specs.Steps.{Breakable};
 ghost use Rattle.balance.specs.Calls.{lent, shortestOf, hasRoom, Divides, BalancedCall};
 use breaking::check_breaking;
 use breaklimit::AvailableSpace;
-use choice::cells::smaller;
+use cells::smaller;
 use division::divide;
 use refusal::Answer;
 use refusal::Verdict;

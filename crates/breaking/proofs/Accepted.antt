@@ -3,7 +3,7 @@
 use mathlib.Core.Path.{_≡_, refl, sym, ap, ap₂, _∙_}
 use mathlib.Core.Bool.{Bool, true, false}
 use mathlib.Core.List.{List, [], _∷_, _++_}
-use Prim.Native.Nat.{ℕ, _+_, _-_, _≤_, min, zero-le}
+use Prim.Native.Nat.{ℕ, _+_, _≤_, min, zero-le}
 use native.Mathlib.Omega.{arith}
 use lib.Dec.{leb, ltb}
 use lib.ListN.{length, getD}
@@ -16,7 +16,7 @@ use Rattle.refusal.specs.declared.Refusal.{Refusal}
 use Rattle.refusal.specs.declared.Verdict.{Verdict}
 use Rattle.refusal.specs.declared.Verdict.the-variants.{Passed, Refused}
 use Rattle.refusal.specs.Domain.{Number, float, code, notFinite, offGrid, outOfRange, any, check, checked, shape, summed, then, orElse}
-use Rattle.refusal.specs.Marks.{mark, leastOf, leastUpTo, leastMark, judged, Lengths, AllFine, Sound}
+use Rattle.refusal.specs.Marks.{mark, leastOf, leastUpTo, judged, Lengths, AllFine, Sound}
 use Rattle.refusal.proofs.Order.{least-ext}
 use Rattle.refusal.proofs.Checks.{judged-checked, least-append, least-one, then-passed, shape-passed, summed-passed, accepted, fine-append, fine-length, fine-size, fine-code}
 use Rattle.breaklimit.specs.declared.AvailableSpace.{AvailableSpace}

@@ -1,9 +1,9 @@
 -- Greedy breaking of document 01's examples, computed: what P5 gives beside its balanced counts, and P1 and P6. Assumes nothing.
 use mathlib.Core.Path.{_≡_, refl}
-use mathlib.Core.List.{List, [], _∷_, map}
+use mathlib.Core.List.{[], _∷_, map}
 use Prim.Native.Nat.{ℕ, _*_}
 use lib.IntN.{ℤ, pos}
-use Rattle.breaking.specs.Breaking.{Limit, definite, fits, lineSize, taken, linesOf, greedy}
+use Rattle.breaking.specs.Breaking.{definite, fits, lineSize, taken, linesOf, greedy}
 
 -- whole pixels in sixty-fourths
 abbrev pub px : ℕ → ℤ

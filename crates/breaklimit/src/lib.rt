@@ -3,8 +3,9 @@ ghost use mathlib.Core.Path.{_≡_};
 ghost use mathlib.Core.List.{List};
 ghost use Rattle.refusal.specs.Domain.{Number};
 ghost use Rattle.refusal.specs.Marks.{leastOf};
-ghost use Rattle.grid.specs.Floats.{lowered, raised};
 ghost use Rattle.breaklimit.specs.Limit.{spaceOf, raisedTo, numberOr, underMaximum, keepsSpace, withoutMaximum, byMaximum, breakLimit, spaceNumbers, boundNumbers, limitVerdict, limitCall};
+use grid::floats::lower;
+use grid::floats::raise;
 use refusal::Kind;
 use refusal::Mark;
 use refusal::Refusal;
@@ -49,18 +50,6 @@ pub fn space_of(kind: u32, limit: f32) -> AvailableSpace
         return AvailableSpace::MinContent;
     }
     AvailableSpace::MaxContent
-}
-
-pub fn lower(x: f32, y: f32) -> f32
-    ensures { λ r. ⌜ r ≡ lowered x y ⌝ }
-{
-    if y < x { y } else { x }
-}
-
-pub fn raise(x: f32, y: f32) -> f32
-    ensures { λ r. ⌜ r ≡ raised x y ⌝ }
-{
-    if x < y { y } else { x }
 }
 
 pub fn raise_to(minimum: Bound, x: f32) -> f32

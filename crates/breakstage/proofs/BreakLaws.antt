@@ -9,7 +9,7 @@ use Rattle.grid.specs.Grid.{cleaned}
 use Rattle.breaklimit.specs.declared.AvailableSpace.{AvailableSpace}
 use Rattle.breaking.specs.Calls.{written}
 use Rattle.breaking.specs.Steps.{Breakable}
-use Rattle.rounds.specs.Cells.{itemsIn}
+use Rattle.itemtable.specs.Table.{itemsIn}
 use Rattle.wrapping.specs.declared.Mode.{Mode}
 use Rattle.wrapping.specs.declared.Mode.the-variants.{Single, Greedy, Balanced}
 use Rattle.wrapping.specs.Wrapping as wrapping

@@ -6,7 +6,7 @@ use lib.Dec.{eqb, ltb}
 use lib.Ieee.{Float}
 use Rattle.grid.specs.Grid.{cleaned}
 use Rattle.breaking.specs.Steps.{Breakable}
-use Rattle.rounds.specs.Cells.{Wide, itemsIn}
+use Rattle.itemtable.specs.Table.{Wide, itemsIn}
 use Rattle.wrapping.specs.declared.Mode.{Mode}
 use Rattle.wrapping.specs.declared.Mode.the-variants.{Single, Greedy, Balanced}
 use Rattle.wrapping.specs.Wrapping as wrapping

@@ -1,6 +1,6 @@
 -- The contract of `read` leaves no choice: any two results that it allows, count cells included, are equal. By cases of the reading and of the
 -- checks; where they pass, since one division alone is the chosen one. Assumes nothing.
-use mathlib.Core.Path.{_≡_, refl, sym, ap, _∙_}
+use mathlib.Core.Path.{_≡_, sym, ap, _∙_}
 use mathlib.Core.Bool.{Bool, true, false}
 use mathlib.Core.List.{List}
 use Prim.Native.Nat.{ℕ}
@@ -18,7 +18,7 @@ use Rattle.format.specs.declared.Head.{Head}
 use Rattle.spelling.specs.declared.Reply.{Reply}
 use Rattle.spelling.specs.declared.Reply.the-variants.{Lines}
 use Rattle.format.specs.Reading.{Reading, whole, broken}
-use Rattle.capture.specs.Answer.{verdictOf, Divided, ByVerdict, ByCount, Answered}
+use Rattle.capture.specs.Answer.{verdictOf, ByVerdict, ByCount, Answered}
 
 module _ (before : List ℕ) (r s : Reply) (a c : List ℕ) where
   by-verdict : (v : Verdict) (head : Head) (sizes : List Float) → ByVerdict v head sizes before r a → ByVerdict v head sizes before s c → (r ≡ s) × (a ≡ c)

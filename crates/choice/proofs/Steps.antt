@@ -3,7 +3,7 @@ use mathlib.Core.Path.{_≡_, refl, sym, ap, subst, _∙_}
 use mathlib.Core.Logic.{_⊎_, inl, inr}
 use mathlib.Core.List.{List, [], _∷_}
 use mathlib.Core.Bool.{Bool, true, false, cond, true≢false}
-use Prim.Native.Nat.{ℕ, zero, suc, _+_, _-_, _*_, _^_, _≤_, _<_, zero-le, min, max}
+use Prim.Native.Nat.{ℕ, suc, _+_, _-_, _*_, _^_, _≤_, _<_, zero-le, min, max}
 use native.Mathlib.Nat.{le-refl, eq-or-lt-of-le, mul-le-mul, mul-add, add-mul}
 use native.Mathlib.Omega.{arith}
 use lib.ListN.{length, getD, set}
@@ -14,10 +14,12 @@ use Rattle.rule.specs.Dp.{Argmin, ValidAt, scoreAt, Feas, Laws, Nonzero}
 use Rattle.rule.proofs.DpLaws.{Order, order, less, same, more, far, far-ok, merge-plain, merge-only, merge-far, merge-near}
 use Rattle.rule.proofs.EndsLaws.{Scan, scan-none, scan-some, narrow-left, narrow-right, skip-right}
 use Rattle.rule.specs.Sizes.{pre, sizeAt, squareAt, ZeroAt}
-use Rattle.rule.proofs.SizesLaws.{laws, pre-mono, pre-gap, pre-step}
-use Rattle.choice.specs.Whole.{Holds}
-use Rattle.choice.proofs.WholeLaws.{add-holds, sub-holds, mul-holds, le-true, le-false, eq-true, eq-false}
-use Rattle.choice.specs.Cells.{beforeF, sizeF, baseF, costF, zeroF, chooseF, Ghost, ends, value, Stands, Ready, RowIn, Choice, CoversIn, Safe, EndsFeas, FirstPlain, LeastOf, PickOut, RowOut}
+use Rattle.rule.proofs.SizesLaws.{laws, pre-mono, pre-step}
+use Rattle.cells.specs.Whole.{Holds}
+use Rattle.cells.specs.Sums.{baseF, ends}
+use Rattle.cells.proofs.SumsLaws.{base-holds}
+use Rattle.cells.proofs.WholeLaws.{add-holds, sub-holds, mul-holds, le-true, le-false, eq-true, eq-false}
+use Rattle.choice.specs.Cells.{costF, zeroF, chooseF, Ghost, value, Stands, Ready, RowIn, Choice, CoversIn, Safe, EndsFeas, FirstPlain, LeastOf, PickOut, RowOut}
 use Rattle.choice.proofs.CellsLaws.{NearChoice}
 
 bool-case : (b : Bool) → (b ≡ true) ⊎ (b ≡ false)
@@ -134,31 +136,7 @@ module _ (sums : List Float) (gap : Float) (prev : List Float) (base : Float) (f
       let e : end ≡ stop = omega (arith, L .end-hi) in
       record { lo = L .lo; hi = omega (arith, L .hi); least = λ c g. subst (λ (i : ℕ). Argmin (λ e. (first ≤ e) × (e < i) × (zeroF sums gap e ≡ false)) c best) e (L .least c g) }
 
--- ---- what the machine's numbers hold
-module _ (sums : List Float) (gapF : Float) (gap : ℕ) (xs : List ℕ) (gi : Holds gapF gap) (si : (i : ℕ) → i < length xs → Holds (getD sums i nan) (pre gap xs (suc i)))
-    (small : pre gap xs (length xs) ≤ 2 ^ 24) where
-  before-holds : (s : ℕ) → s ≤ length xs → Holds (beforeF sums s) (pre gap xs s)
-  before-holds zero h = (refl, refl)
-  before-holds (suc i) h = si i h
-
-  pub size-holds : (s e : ℕ) → s ≤ e → e < length xs → Holds (sizeF sums gapF s e) (sizeAt gap xs s (suc e))
-  size-holds s e l h =
-      let a : pre gap xs (suc e) ≤ pre gap xs (length xs) = pre-mono gap xs (suc e) (length xs) h in
-      let b : pre gap xs s + gap ≤ pre gap xs (suc e) = pre-gap gap xs s (suc e) (omega arith) h in
-      let x : Holds (sub binary64 (getD sums e nan) (beforeF sums s)) (pre gap xs (suc e) - pre gap xs s) = sub-holds (getD sums e nan) (beforeF sums s) (pre gap xs (suc e)) (pre gap xs s) (si e h) (before-holds s (omega arith)) (omega arith) (omega arith) in
-      let y : Holds (sizeF sums gapF s e) (pre gap xs (suc e) - pre gap xs s - gap) = sub-holds (sub binary64 (getD sums e nan) (beforeF sums s)) gapF (pre gap xs (suc e) - pre gap xs s) gap x gi (omega arith) (omega arith) in
-      let z : pre gap xs (suc e) - pre gap xs s - gap ≡ sizeAt gap xs s (suc e) = omega arith in
-      subst (Holds (sizeF sums gapF s e)) z y
-
-  -- the same by the sum before the line with its gap
-  pub base-holds : (s e : ℕ) → s ≤ e → e < length xs → Holds (sub binary64 (getD sums e nan) (baseF sums gapF s)) (sizeAt gap xs s (suc e))
-  base-holds s e l h =
-      let a : pre gap xs (suc e) ≤ pre gap xs (length xs) = pre-mono gap xs (suc e) (length xs) h in
-      let b : pre gap xs s + gap ≤ pre gap xs (suc e) = pre-gap gap xs s (suc e) (omega arith) h in
-      let x : Holds (baseF sums gapF s) (pre gap xs s + gap) = add-holds (beforeF sums s) gapF (pre gap xs s) gap (before-holds s (omega arith)) gi (omega arith) in
-      let y : Holds (sub binary64 (getD sums e nan) (baseF sums gapF s)) (pre gap xs (suc e) - (pre gap xs s + gap)) = sub-holds (getD sums e nan) (baseF sums gapF s) (pre gap xs (suc e)) (pre gap xs s + gap) (si e h) x b (omega arith) in
-      let z : pre gap xs (suc e) - (pre gap xs s + gap) ≡ sizeAt gap xs s (suc e) = omega arith in
-      subst (Holds (sub binary64 (getD sums e nan) (baseF sums gapF s))) z y
+-- ---- totals
 
 -- the total of a division's squares is at most the square of the whole
 squares : (a b c : ℕ) → a + b ≤ c → a * a + b * b ≤ c * c

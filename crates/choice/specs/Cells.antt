@@ -3,28 +3,17 @@ use mathlib.Core.Path.{_≡_}
 use mathlib.Core.Logic.{_⊎_}
 use mathlib.Core.List.{List}
 use mathlib.Core.Bool.{Bool, true, false, cond}
-use Prim.Native.Nat.{ℕ, zero, suc, _+_, _^_, _≤_, _<_}
-use lib.IntN.{pos}
+use Prim.Native.Nat.{ℕ, suc, _+_, _^_, _≤_, _<_}
 use lib.ListN.{length, getD}
-use lib.Ieee.{Float, nan, fin, binary64, add, sub, mul, le, eq}
+use lib.Ieee.{Float, nan, binary64, add, sub, mul, le, eq}
 use Rattle.rule.specs.Natural.{Limit}
 use Rattle.rule.specs.Dp.{Argmin, Feas, Usable, Costs}
 use Rattle.rule.specs.Ends.{Covers}
 use Rattle.rule.specs.Sizes.{pre, squareAt, FitEnd, GreedyCounts, ZeroAt}
-use Rattle.choice.specs.Whole.{Holds, whole}
+use Rattle.cells.specs.Whole.{Holds, whole}
+use Rattle.cells.specs.Sums.{ends}
 
 -- ---- the machine's arithmetic
-abbrev pub beforeF : List Float → ℕ → Float
-beforeF sums zero = fin false 0 (pos 0)
-beforeF sums (suc i) = getD sums i nan
-
-abbrev pub sizeF : List Float → Float → ℕ → ℕ → Float
-sizeF sums gap s e = sub binary64 (sub binary64 (getD sums e nan) (beforeF sums s)) gap
-
--- the sum before a line, with one gap: the sum up to the line's end less this is the line's size
-abbrev pub baseF : List Float → Float → ℕ → Float
-baseF sums gap s = add binary64 (beforeF sums s) gap
-
 abbrev pub costF : List Float → List Float → Float → ℕ → Float
 costF sums prev base e = add binary64 (mul binary64 (sub binary64 (getD sums e nan) base) (sub binary64 (getD sums e nan) base)) (getD prev (e + 1) nan)
 
@@ -46,9 +35,6 @@ pub record Ghost : Type 0 where
   pub k : ℕ
   pub lo : ℕ
   pub hi : ℕ
-
-abbrev pub ends : List ℕ → ℕ → ℕ
-ends fit s = getD fit s 0 + 1
 
 abbrev pub value : List Float → ℕ → ℕ
 value prev t = whole (getD prev t nan)

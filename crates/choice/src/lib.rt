@@ -3,16 +3,15 @@
 ghost use mathlib.Core.Bool.{cond, false};
 ghost use lib.ListN.{length};
 ghost use lib.Ieee.{le};
-ghost use Rattle.choice.specs.Cells.{baseF, costF, zeroF, FirstPlain, LeastOf, chooseF, Safe, PickOut};
+ghost use Rattle.cells.specs.Sums.{baseF};
+ghost use Rattle.choice.specs.Cells.{costF, zeroF, FirstPlain, LeastOf, chooseF, Safe, PickOut};
 ghost use mathlib.Core.Path.{_≡_};
 ghost use Prim.Native.Nat.{_+_, _≤_, _<_};
 use cells::at;
 use cells::larger;
 use cells::smaller;
-use sums::Units;
-
-pub mod cells;
-pub mod sums;
+use cells::sums;
+use cells::sums::Units;
 
 // The total of line scores: squares of whole sixty-fourths.
 pub struct Score(pub f64);

@@ -10,7 +10,7 @@ use lib.Seq.{length-take-le, drop-drop, take-at, drop-at, take-append-le, drop-a
 use lib.Ieee.{Float}
 use borrow.Rule.Slice.PartMut.{putMid, postOf, same-len-mid, mid-len, take-put, drop-put}
 use Rattle.container.specs.Columns.{column}
-use Rattle.container.specs.Stages.{Inside, Stored, FourStored}
+use Rattle.container.specs.Stages.{Stored, FourStored}
 
 -- ---- list k
 

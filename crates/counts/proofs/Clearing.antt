@@ -5,7 +5,7 @@ use mathlib.Core.List.{List, [], _∷_, _++_, append-nil}
 use Prim.Native.Nat.{ℕ, _+_, _-_, _≤_, _<_}
 use native.Mathlib.Nat.{sub-zero}
 use native.Mathlib.Omega.{arith}
-use lib.ListN.{length, getD, set, take, drop, replicate, length-set, length-replicate, getD-replicate, drop-of-length-le}
+use lib.ListN.{length, getD, set, take, replicate, length-set, length-replicate, getD-replicate, drop-of-length-le}
 use lib.Seq.{ext-getD, getD-set-same, getD-set-other}
 use Rattle.breaking.specs.Steps.{cleared}
 use Rattle.rule.proofs.DpLaws.{Order, order, less, same, more}

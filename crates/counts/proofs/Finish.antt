@@ -14,7 +14,7 @@ use Rattle.rule.proofs.DpLaws.{G-mono}
 use Rattle.rule.specs.Sizes.{FitEnd, ZeroAt, squareAt}
 use Rattle.rule.proofs.SizesLaws.{fit-mono, laws, chosen}
 use Rattle.rule.proofs.Exists.{balanced-of}
-use Rattle.choice.specs.Cells.{sizeF, ends}
+use Rattle.cells.specs.Sums.{sizeF, ends}
 use Rattle.fitting.specs.Tables.{FitsOut, FitRange, CountsFrom, Rising, Falling, Reaches}
 use Rattle.rows.specs.Program.{counted, TablesAre, RowBase, RowsSoFar}
 use Rattle.rows.proofs.ProgramLaws.{first-prev}

@@ -9,7 +9,7 @@ use lib.Seq.{take-suc-set}
 use Rattle.rule.specs.Dp.{Argmin, Feas, Usable, BestAt}
 use Rattle.rule.proofs.DpLaws.{Reads, reads-start, reads-more, reads-end}
 use Rattle.rule.specs.Sizes.{squareAt, ZeroAt}
-use Rattle.choice.specs.Cells.{ends}
+use Rattle.cells.specs.Sums.{ends}
 use Rattle.rows.specs.Program.{counted, Within, RowKept}
 use Rattle.rows.proofs.ProgramLaws.{within-next}
 use Rattle.counts.specs.Reading.{Readable, ReadOut}

@@ -5,7 +5,7 @@ use Prim.Native.Nat.{ℕ, _+_, _-_, _*_, _≤_, _<_}
 use lib.ListN.{length, take}
 use Rattle.rule.specs.Dp.{Feas, Laws, BestAt}
 use Rattle.rule.specs.Sizes.{squareAt, ZeroAt}
-use Rattle.choice.specs.Cells.{ends}
+use Rattle.cells.specs.Sums.{ends}
 use Rattle.fitting.specs.Tables.{Reaches}
 use Rattle.rows.specs.Program.{counted, RowKept}
 

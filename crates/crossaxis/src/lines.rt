@@ -8,6 +8,7 @@ use align::ContentAlignment;
 use align::Distribution;
 use align::axis;
 use breaklimit::Bound;
+use grid::floats::sum_axis_gaps;
 use linesize::container;
 use linesize::container::Cross;
 
@@ -107,7 +108,7 @@ pub fn align_lines(
     let cross = container::read_cross(c);
     let wrap = cross.wrap;
     let n = lines.len();
-    let gaps = axis::sum_axis_gaps(cross.gap, n);
+    let gaps = sum_axis_gaps(cross.gap, n);
     let more = line_gain(cross, alignment, sum_lines(0.0, lines) + gaps, n);
     stretch_lines(more, lines, sizes);
     let sum = sum_lines(more, lines);

@@ -1,25 +1,25 @@
 -- What a run is given where a call has accepted its sizes, and what the run's division is by the plain rule. Assumes nothing.
 use mathlib.Core.Path.{_≡_, refl, sym, ap, subst, _∙_}
 use mathlib.Core.Bool.{Bool, true, false, not}
-use mathlib.Core.Logic.{_⊎_, inl, inr}
-use mathlib.Core.List.{List, [], _∷_, _++_, map}
-use Prim.Native.Nat.{ℕ, zero, suc, _+_, _-_, _^_, _≤_, _<_, zero-le}
+use mathlib.Core.Logic.{inl, inr}
+use mathlib.Core.List.{List, [], _∷_, map}
+use Prim.Native.Nat.{ℕ, zero, suc, _+_, _≤_, _<_, zero-le}
 use native.Mathlib.Omega.{arith}
 use lib.Dec.{T}
-use lib.ListN.{length, getD, replicate, length-map}
-use lib.IntN.{ℤ, pos, negsuc, negℤ, natAbs}
+use lib.ListN.{length, getD, length-map}
+use lib.IntN.{ℤ, pos, negsuc, natAbs}
 use lib.Ieee.{Float, nan, inf, fin, binary64, isNan, neg, ofBits}
 use lib.Ieee.Exact.{HasValue}
-use Rattle.grid.specs.Grid.{At, onGrid, Length, sixtyFourths, signed}
+use Rattle.grid.specs.Grid.{Length, sixtyFourths, signed}
 use Rattle.grid.proofs.Meaning.{at-of-grid}
 use Rattle.refusal.specs.Marks.{sumUpTo}
 use Rattle.breaklimit.specs.declared.AvailableSpace.{AvailableSpace}
 use Rattle.breaklimit.specs.declared.AvailableSpace.the-variants.{Definite, MinContent, MaxContent}
 use Rattle.breaking.specs.Breaking.{definite, limitOf}
-use Rattle.breaking.specs.Calls.{units, outerSum}
+use Rattle.breaking.specs.Calls.{units}
 use Rattle.breaking.specs.Steps.{Breakable, LengthLimit}
 use Rattle.rule.specs.Sizes.{pre}
-use Rattle.fitting.specs.Pixels.{scaledF, SizeIs, SizeOut, SizesAre}
+use Rattle.fitting.specs.Pixels.{scaledF, SizeIs, SizeOut}
 use Rattle.fitting.specs.Tables.{LimitIs}
 use Rattle.rule.specs.Natural.{natural}
 use Rattle.counts.specs.Run.{RunIn, RunOut}

@@ -11,7 +11,7 @@ ghost use Rattle.fitting.specs.Tables.{LimitIs};
 ghost use Rattle.division.specs.Divided.{Divided, Cleared, ClearedF};
 use breaking::clear_counts;
 use breaklimit::AvailableSpace;
-use choice::sums::Units;
+use cells::sums::Units;
 use counts::counts_of_sizes;
 use fitting::Cap;
 use fitting::pixels::to_size;

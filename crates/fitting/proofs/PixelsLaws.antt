@@ -2,8 +2,8 @@
 use mathlib.Core.Path.{_≡_, refl, sym, _∙_}
 use mathlib.Core.Logic.{_⊎_, inl, inr}
 use mathlib.Core.List.{List}
-use mathlib.Core.Bool.{Bool, true, false, true≢false, false≢true}
-use Prim.Native.Nat.{ℕ, zero, suc, _+_, _*_, _^_, _≤_, _<_, zero-le}
+use mathlib.Core.Bool.{true, false, true≢false, false≢true}
+use Prim.Native.Nat.{ℕ, suc, _+_, _*_, _^_, _≤_, _<_, zero-le}
 use native.Mathlib.Nat.{mul-one, zero-mul, eq-of-mul-eq-mul-right, eq-zero-or-pos}
 use native.Mathlib.Omega.{arith}
 use lib.Dec.{lt→ltb}
@@ -17,7 +17,7 @@ use lib.Ieee.Fits.{down-pos}
 use Rattle.grid.specs.Grid.{At}
 use Rattle.grid.proofs.Convert.{scale-at}
 use Rattle.breaking.specs.Breaking as limit
-use Rattle.choice.specs.Whole.{Holds}
+use Rattle.cells.specs.Whole.{Holds}
 use Rattle.rule.specs.Natural.{natural}
 use Rattle.rule.proofs.SizesLaws.{pre-step, pre-mono}
 use Rattle.fitting.specs.Tables.{LimitIs}

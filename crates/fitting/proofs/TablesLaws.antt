@@ -8,7 +8,7 @@ use native.Mathlib.Nat.{le-refl}
 use native.Mathlib.Numerals.{add-one}
 use native.Mathlib.Omega.{arith}
 use borrow.Author.Tests.{leb-true, leb-false}
-use lib.ListN.{length, getD, set, length-set, List·getD-eq-default}
+use lib.ListN.{length, getD, set, List·getD-eq-default}
 use lib.Seq.{getD-set-same, getD-set-other}
 use lib.Ieee.{Float, nan, binary64, add}
 use lib.IntN.{ℤ, pos, negsuc}
@@ -20,10 +20,10 @@ use Rattle.rule.specs.Natural.{Limit, max-content, natural, Fits}
 use Rattle.rule.proofs.DpLaws.{lt-or-ge, Order, order, less, same, more}
 use Rattle.rule.specs.Sizes.{pre, sizeAt, FitEnd, GreedyCounts}
 use Rattle.rule.proofs.SizesLaws.{fits-less, size-mono, fit-under, pre-step, pre-mono}
-use Rattle.choice.specs.Whole.{Holds}
-use Rattle.choice.proofs.WholeLaws.{holds-at, add-holds}
-use Rattle.choice.specs.Cells.{sizeF, ends}
-use Rattle.choice.proofs.Steps.{size-holds}
+use Rattle.cells.specs.Whole.{Holds}
+use Rattle.cells.proofs.WholeLaws.{holds-at, add-holds}
+use Rattle.cells.specs.Sums.{sizeF, ends}
+use Rattle.cells.proofs.SumsLaws.{size-holds}
 use Rattle.fitting.specs.Tables.{fitsF, LimitIs, SumsAre, StretchOut, CountsFrom, FitRange, Rising, Falling, Reaches, FirstFor}
 
 pub limit-max : (x : Float) → LimitIs max-content false x

@@ -7,7 +7,7 @@ use Prim.Native.Nat.{ℕ, _^_, _≤_, _<_}
 use lib.ListN.{length, getD}
 use lib.Ieee.{Float, nan, binary64, mul, ofBits}
 use lib.Ieee.Exact.{HasValue}
-use Rattle.choice.specs.Whole.{Holds}
+use Rattle.cells.specs.Whole.{Holds}
 use Rattle.rule.specs.Sizes.{pre}
 use Rattle.fitting.specs.Tables.{SumsAre}
 

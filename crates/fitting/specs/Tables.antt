@@ -8,8 +8,8 @@ use lib.ListN.{length, getD}
 use lib.Ieee.{Float, nan, le}
 use Rattle.rule.specs.Natural.{Limit, Fits}
 use Rattle.rule.specs.Sizes.{pre, FitEnd}
-use Rattle.choice.specs.Whole.{Holds}
-use Rattle.choice.specs.Cells.{sizeF, ends}
+use Rattle.cells.specs.Whole.{Holds}
+use Rattle.cells.specs.Sums.{sizeF, ends}
 
 -- ---- the limit, as the code has it: `bounded` with a number, or not
 abbrev pub fitsF : Bool → Float → Float → Bool

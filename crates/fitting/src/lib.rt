@@ -4,11 +4,11 @@ ghost use lib.ListN.{length, getD};
 ghost use Rattle.fitting.specs.Tables.{fitsF, StretchOut, FitsOut, FitRange, CountsFrom, Rising, Reaches};
 ghost use mathlib.Core.Path.{_≡_};
 ghost use Prim.Native.Nat.{_+_, _≤_, _<_};
-use choice::cells::at;
-use choice::cells::larger;
-use choice::cells::or_zero;
-use choice::sums::Units;
-use choice::sums::line_size;
+use cells::at;
+use cells::larger;
+use cells::or_zero;
+use cells::sums::Units;
+use cells::sums::line_size;
 
 pub mod pixels;
 

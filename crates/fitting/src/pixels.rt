@@ -6,7 +6,7 @@ ghost use lib.Dec.{T};
 ghost use lib.ListN.{length, getD};
 ghost use lib.Ieee.{isNan, nan};
 ghost use Rattle.fitting.specs.Pixels.{scaledF, SizeOut, AddOut};
-use choice::sums::Units;
+use cells::sums::Units;
 
 // A length in pixels as sixty-fourths: exact, since an `f64` has room for every one.
 pub fn to_units(v: f32) -> Units

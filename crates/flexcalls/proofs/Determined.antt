@@ -14,7 +14,7 @@ use Rattle.flexcalls.specs.declared.FlexAnswer.{FlexAnswer}
 use Rattle.flexcalls.specs.declared.FlexAnswer.the-variants.{Done, Refused}
 use Rattle.flexing.specs.Items.{Lists}
 use Rattle.flexcalls.specs.Call.{Answered, FlexedLine}
-use Rattle.flexing.proofs.Determined.{same-answer}
+use Rattle.flexlaws.proofs.Determined.{same-answer}
 
 units : (a b : Sixtyfourths) → a .0 ≡ b .0 → a ≡ b
 units a b e = ap make e

@@ -5,13 +5,13 @@ ghost use Rattle.grid.specs.Grid.{Length, cleaned};
 ghost use Rattle.refusal.specs.Domain.{summed};
 ghost use Rattle.flexing.specs.Flex.{outerSum};
 ghost use Rattle.flexing.specs.Items.{lists, itemsOf};
-ghost use Rattle.rounds.specs.Cells.{itemsIn, Wide, Tabled};
+ghost use Rattle.itemtable.specs.Table.{itemsIn, Wide, Tabled};
 ghost use Rattle.flexcalls.specs.Call.{Answered, FlexedLine};
 ghost use Rattle.flexcalls.specs.Parts.{Checked};
+use itemtable::read_items;
+use itemtable::sum::outer_sum;
 use refusal::Verdict;
 use rounds::flex::flex_items;
-use rounds::sum::outer_sum;
-use rounds::table::read_items;
 
 // What flexing a line answers: its free space before flexing, and its rounds.
 pub enum FlexAnswer {

@@ -5,7 +5,6 @@ use mathlib.Core.List.{List}
 use Prim.Native.Nat.{ℕ}
 use lib.IntN.{ℤ}
 use lib.Ieee.{Float}
-use Rattle.refusal.specs.declared.Answer.{Answer}
 use Rattle.flexing.specs.Items.{Lists}
 use Rattle.flexcalls.specs.declared.FlexAnswer.{FlexAnswer}
 use Rattle.flexcalls.specs.Call.{valuesOf}

@@ -4,7 +4,6 @@ ghost use mathlib.Core.Path.{_≡_};
 ghost use Prim.Native.Nat.{_≤_};
 ghost use lib.IntN.{pos};
 ghost use lib.Signed.{ltZ};
-ghost use Rattle.grid.specs.Floats.{gaps};
 ghost use Rattle.flexing.specs.Flex.{magnitude, limited};
 ghost use Rattle.flexing.specs.Steps.{Added, spaceLeft, shareOf};
 use crate::Item;
@@ -14,6 +13,7 @@ use crate::Sums;
 use crate::sizes::factor_of;
 use crate::sizes::outer_size;
 use crate::sizes::weight_of;
+use grid::floats::sum_axis_gaps;
 
 // Step 1.
 pub fn is_growing(free: grid::Sixtyfourths) -> bool
@@ -22,22 +22,12 @@ pub fn is_growing(free: grid::Sixtyfourths) -> bool
     free.0 > 0
 }
 
-pub fn gaps_of(gap: f32, n: usize) -> f32
-    requires { ⌜ n ≤ 1024 ⌝ }
-    ensures { λ r. ⌜ r ≡ gaps gap n ⌝ }
-{
-    if n == 0 {
-        return 0.0;
-    }
-    gap * ((n - 1) as f32)
-}
-
 // The space that the outer sizes of n items leave.
 pub fn space_left(inner: f32, gap: f32, n: usize, outer: f32) -> f32
     requires { ⌜ n ≤ 1024 ⌝ }
     ensures { λ r. ⌜ r ≡ spaceLeft inner gap n outer ⌝ }
 {
-    inner - (gaps_of(gap, n) + outer)
+    inner - (sum_axis_gaps(gap, n) + outer)
 }
 
 // One item more.

@@ -1,21 +1,10 @@
 // One item by value: every operation on its numbers.
 ghost use mathlib.Core.Path.{_≡_};
-ghost use Rattle.grid.specs.Floats.{raised, lowered};
 ghost use Rattle.flexing.specs.Flex.{clamp, hypothetical, innerBase, outer, factor, weight, inflexible, flexed, freezes};
 use crate::Item;
 use crate::Share;
-
-fn raise(x: f32, y: f32) -> f32
-    ensures { λ r. ⌜ r ≡ raised x y ⌝ }
-{
-    if x < y { y } else { x }
-}
-
-fn lower(x: f32, y: f32) -> f32
-    ensures { λ r. ⌜ r ≡ lowered x y ⌝ }
-{
-    if y < x { y } else { x }
-}
+use grid::floats::lower;
+use grid::floats::raise;
 
 pub fn clamped(it: Item, x: f32) -> f32
     ensures { λ r. ⌜ r ≡ clamp it x ⌝ }

@@ -14,7 +14,7 @@ use lib.Ieee.{Float}
 use borrow.Author.Tests.{ltb-true, ltb-false}
 use Rattle.refusal.specs.Marks.{sumUpTo}
 use Rattle.flexing.specs.declared.Item.{Item}
-use Rattle.flexing.proofs.Determined.{same-answer}
+use Rattle.flexlaws.proofs.Determined.{same-answer}
 use Rattle.flexlines.specs.Lines.{lineStart, lineItems, part, Beyond, FlexedLines}
 use Rattle.flexlines.proofs.Going.{sum-ext, flexed-as}
 

@@ -17,11 +17,11 @@ use Rattle.flexing.specs.declared.Item.{Item}
 use Rattle.flexing.specs.Flex.{outerSum, Flexed, targets as targetsOf}
 use Rattle.grid.specs.Floats.{each}
 use Rattle.flexing.specs.Accepted.{Accepted}
-use Rattle.rounds.specs.Cells.{itemIn, itemsIn, Wide}
+use Rattle.itemtable.specs.Table.{itemIn, itemsIn, Wide}
 use Rattle.flexlines.specs.Lines.{lineStart, lineItems, part, Beyond, FlexedLines}
 use Rattle.flexlines.specs.Parts.{Divided, Lined, Ahead, Flowed, Cleared}
-use Rattle.rounds.proofs.Each.{length-each, each-ext, outer-snoc}
-use Rattle.rounds.proofs.Columns.{every-each}
+use Rattle.itemtable.proofs.Each.{length-each, each-ext, outer-snoc}
+use Rattle.itemtable.proofs.Columns.{every-each}
 
 -- ---- the ranges
 

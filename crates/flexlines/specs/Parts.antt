@@ -10,7 +10,7 @@ use Rattle.grid.specs.Grid.{Length}
 use Rattle.refusal.specs.Marks.{sumUpTo}
 use Rattle.flexing.specs.declared.Item.{Item}
 use Rattle.flexing.specs.Flex.{Flexed, outerSum}
-use Rattle.rounds.specs.Cells.{itemsIn, Wide, Tabled}
+use Rattle.itemtable.specs.Table.{itemsIn, Wide, Tabled}
 use Rattle.flexlines.specs.Lines.{lineStart, lineItems, part}
 
 -- what checks 1 to 5 show: the lines have the n items of the table, none of them is empty, and there is room

@@ -4,7 +4,7 @@ ghost use mathlib.Core.Path.{_≡_};
 ghost use Prim.Native.Nat.{_≤_, _<_};
 ghost use lib.ListN.{length, set};
 ghost use lib.IntN.{pos};
-ghost use Rattle.rounds.specs.Cells.{itemIn};
+ghost use Rattle.itemtable.specs.Table.{itemIn};
 ghost use Rattle.flexlines.specs.Lines.{divides, FlexedLines};
 ghost use Rattle.flexlines.specs.Parts.{Lined, Flowed, Cleared};
 use refusal::shapes::has_room;

@@ -21,7 +21,7 @@ use Rattle.flexing.specs.Items.{Lists, count, itemAt, itemsOf}
 use Rattle.flexlines.specs.Lines.{lineStart}
 use Rattle.flexchecks.specs.Counts.{linesShape, linesInput}
 use Rattle.flexmany.specs.Lines.{roomOf, linesVerdict, FlexedByLine}
-use Rattle.rounds.proofs.Each.{each-ext}
+use Rattle.itemtable.proofs.Each.{each-ext}
 use Rattle.flexlines.proofs.Alone.{SameFlexed, flexed-alone, one-flexed}
 use Rattle.flexchecks.proofs.Division.{division-fine}
 

@@ -19,8 +19,8 @@ use Rattle.refusal.proofs.Checks.{judged-checked, accepted, then-passed}
 use Rattle.flexing.specs.declared.Item.{Item}
 use Rattle.flexing.specs.Flex.{outerSum}
 use Rattle.flexing.specs.Items.{Lists, count, itemAt, itemsOf}
-use Rattle.rounds.specs.Cells.{itemIn, itemsIn, Held}
-use Rattle.rounds.proofs.Columns.{tabled-of, items-are}
+use Rattle.itemtable.specs.Table.{itemIn, itemsIn, Held}
+use Rattle.itemtable.proofs.Columns.{tabled-of, items-are}
 use Rattle.flexlines.specs.Lines.{lineStart}
 use Rattle.flexlines.specs.Parts.{Divided}
 use Rattle.flexlines.proofs.Going.{lines-as}

@@ -6,14 +6,14 @@ ghost use Rattle.grid.specs.Grid.{cleaned};
 ghost use Rattle.refusal.specs.Domain.{summed};
 ghost use Rattle.flexing.specs.Flex.{outerSum};
 ghost use Rattle.flexing.specs.Items.{lists, count, itemAt, itemsOf};
-ghost use Rattle.rounds.specs.Cells.{itemIn, itemsIn};
+ghost use Rattle.itemtable.specs.Table.{itemIn, itemsIn};
 ghost use Rattle.flexlines.specs.Parts.{Divided};
 ghost use Rattle.flexmany.specs.Lines.{AnsweredLines, FlexedByLine};
 ghost use Rattle.flexmany.specs.Parts.{CheckedLines};
+use itemtable::read_items;
+use itemtable::sum::outer_sum;
 use refusal::Answer;
 use refusal::Verdict;
-use rounds::sum::outer_sum;
-use rounds::table::read_items;
 
 fn shorter(a: usize, b: usize) -> usize
     ensures { λ r. ⌜ r ≡ min a b ⌝ }

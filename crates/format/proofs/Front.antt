@@ -1,20 +1,13 @@
 -- What a record's bytes say, case by case, and that a record which was seen, or a fault, stays as more bytes come. Assumes nothing.
 use mathlib.Core.Path.{_≡_, refl, sym, _∙_, ap, subst}
 use mathlib.Core.List.{List, [], _∷_, _++_}
-use Prim.Native.Nat.{ℕ, zero, suc, _+_, _<_, _≤_}
-use lib.Ieee.{Float}
+use Prim.Native.Nat.{ℕ, suc, _<_, _≤_}
 use lib.ListN.{length, getD, length-append, List·getD-append}
 use native.Mathlib.Decide.{ℕ-discrete, decLe}
 use borrow.Author.Tests.{eq-eqb, ne-eqb, le-leb, lt-leb}
 use native.Mathlib.Omega.{arith}
-use Rattle.format.specs.Format.{limitOf, headOf, float, kind, firstFront, laterFront}
-use Rattle.breaklimit.specs.declared.AvailableSpace.the-variants.{MaxContent}
+use Rattle.format.specs.Format.{headOf, float, kind, firstFront, laterFront}
 use Rattle.format.specs.declared.Parsed.the-variants.{Head, Item, End, Partial, Broken}
-
-pub above : (k : ℕ) (x : Float) → (k ≡ 0 → ⊥) → (k ≡ 1 → ⊥) → MaxContent ≡ limitOf k x
-above zero x a b = absurd (a refl)
-above (suc zero) x a b = absurd (b refl)
-above (suc (suc n)) x a b = refl
 
 pub none-second : (l : List ℕ) → length l < 2 → getD l 1 0 ≡ 0
 none-second [] h = refl

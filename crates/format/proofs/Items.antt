@@ -5,7 +5,7 @@ use Prim.Native.Nat.{ℕ, zero, suc, _+_, _≤_}
 use native.Mathlib.Omega.{arith}
 use lib.ListN.{length, drop, length-drop}
 use Rattle.format.specs.Format.{laterFront}
-use Rattle.format.specs.Reading.{Rest, more, byRecord, ending, itemsOf, items}
+use Rattle.format.specs.Reading.{Rest, byRecord, ending, itemsOf, items}
 
 enough : (n m place : ℕ) (l : List ℕ) → length l ≤ n → length l ≤ m → itemsOf n place l ≡ itemsOf m place l
 unfolding itemsOf laterFront

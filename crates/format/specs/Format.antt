@@ -1,12 +1,11 @@
 -- Document 01, "Records for the program": the records of a capture, one by one. A byte is a number below 256. Assumes nothing.
 use mathlib.Core.Bool.{Bool, true, false}
 use mathlib.Core.List.{List}
-use Prim.Native.Nat.{ℕ, zero, suc, _+_, _*_}
+use Prim.Native.Nat.{ℕ, _+_, _*_}
 use lib.Dec.{eqb, leb}
 use lib.ListN.{length, getD}
 use lib.Ieee.{Float, binary32, ofBits}
-use Rattle.breaklimit.specs.declared.AvailableSpace.{AvailableSpace}
-use Rattle.breaklimit.specs.declared.AvailableSpace.the-variants.{Definite, MinContent, MaxContent}
+use Rattle.breaklimit.specs.Limit.{spaceOf}
 use Rattle.format.specs.declared.Head.{Head}
 use Rattle.format.specs.declared.Stage.{Stage}
 use Rattle.format.specs.declared.Stage.the-variants as stage
@@ -24,15 +23,10 @@ word bytes i = half bytes i + 65536 * half bytes (i + 2)
 abbrev pub float : List ℕ → ℕ → Float
 float bytes i = ofBits binary32 (word bytes i)
 
--- "limit kind (0 definite, 1 min, 2 max)"; "The limit field is read only under kind 0"
-abbrev pub limitOf : ℕ → Float → AvailableSpace
-limitOf zero limit = Definite limit
-limitOf (suc zero) limit = MinContent
-limitOf (suc (suc n)) limit = MaxContent
-
--- "Kind 1, 11 bytes: limit kind .., limit f32, gap f32, minimum u16"
+-- "Kind 1, 11 bytes: limit kind .., limit f32, gap f32, minimum u16". `spaceOf` is "limit kind (0 definite, 1 min, 2 max)", and "The limit field
+-- is read only under kind 0"
 abbrev pub headOf : List ℕ → Head
-headOf bytes = record { limit = limitOf (getD bytes 1 0) (float bytes 2); gap = float bytes 6; minimum = half bytes 10 }
+headOf bytes = record { limit = spaceOf (getD bytes 1 0) (float bytes 2); gap = float bytes 6; minimum = half bytes 10 }
 
 abbrev pub pick : Bool → Parsed → Parsed → Parsed
 pick true a b = a

@@ -3,7 +3,7 @@
 use mathlib.Core.List.{List, [], _∷_, _++_, map}
 use Prim.Native.Nat.{ℕ, zero, suc, _/_, _%_, _<_, _≤_, _^_}
 use lib.Ieee.{Float, binary32, ofBits}
-use Rattle.format.specs.Format.{limitOf}
+use Rattle.breaklimit.specs.Limit.{spaceOf}
 use Rattle.format.specs.declared.Head.{Head}
 
 -- the numbers of a capture, floats by their bits
@@ -45,7 +45,7 @@ written c = headBytes c ++ (itemBytes (c .sizes) ++ (3 ∷ []))
 
 -- what the numbers say
 abbrev pub headSaid : Numbers → Head
-headSaid c = record { limit = limitOf (c .limit-kind) (ofBits binary32 (c .limit)); gap = ofBits binary32 (c .gap); minimum = c .minimum }
+headSaid c = record { limit = spaceOf (c .limit-kind) (ofBits binary32 (c .limit)); gap = ofBits binary32 (c .gap); minimum = c .minimum }
 
 abbrev pub sizesSaid : Numbers → List Float
 sizesSaid c = map (ofBits binary32) (c .sizes)

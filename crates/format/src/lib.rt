@@ -3,8 +3,9 @@ ghost use mathlib.Core.Path.{_≡_};
 ghost use Prim.Native.Nat.{_+_, _≤_, _<_};
 ghost use lib.ListN.{length};
 ghost use lib.Ieee.{binary32, ofBits};
-ghost use Rattle.format.specs.Format.{half, word, float, limitOf, headOf, firstFront, laterFront, front};
+ghost use Rattle.format.specs.Format.{half, word, float, headOf, firstFront, laterFront, front};
 use breaklimit::AvailableSpace;
+use breaklimit::space_of;
 
 // A record of kind 1: what the items are broken by.
 pub struct Head {
@@ -65,24 +66,11 @@ fn float_at(bytes: &[u8], at: usize) -> f32
     float_of(word_at(bytes, at))
 }
 
-fn limit_of(kind: u8, limit: f32) -> AvailableSpace
-    ensures { λ r. ⌜ r ≡ limitOf kind limit ⌝ }
-{
-    if kind == 0 {
-        return AvailableSpace::Definite(limit);
-    }
-    if kind == 1 {
-        AvailableSpace::MinContent
-    } else {
-        AvailableSpace::MaxContent
-    }
-}
-
 fn head_of(bytes: &[u8]) -> Head
     requires { ⌜ 12 ≤ length (now bytes) ⌝ }
     ensures { λ r. ⌜ r ≡ headOf (now (bytes .entry)) ⌝ }
 {
-    let limit = limit_of(bytes[1], float_at(bytes, 2));
+    let limit = space_of(bytes[1] as u32, float_at(bytes, 2));
     Head {
         limit,
         gap: float_at(bytes, 6),

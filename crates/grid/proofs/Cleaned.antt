@@ -12,7 +12,7 @@ use lib.Ieee.{Float, nan, inf, fin, Format, prec, emax, low, up, down, round, su
 use lib.Ieee.Fits.{up-pos, down-pos, and-r, add-fits}
 use lib.Ieee.Exact.{HasValue, round-exact}
 use borrow.Author.Tests.{lt-ltb, le-ltb}
-use Rattle.grid.specs.Grid.{signed, At, none, cleaned}
+use Rattle.grid.specs.Grid.{signed, At, zeroPx, cleaned}
 use Rattle.grid.proofs.Meaning.{fits-size, pow-le}
 use Rattle.grid.proofs.Convert.{tidy, clean-at, sign-of}
 use Rattle.grid.proofs.Unique.{same-float}
@@ -53,11 +53,11 @@ sum-none f true X N c h e =
     ap₂ (λ (p q : Bool). cond p (round f false (N - X) c) (round f q (X - N) c)) (le-ltb X N (omega arith)) (lt-ltb N X (omega arith))
     ∙ ap (λ (n : ℕ). round f true n c) (omega arith)
 
-pub clean-add : (f : Format) (x : Float) → T (fits f x) → add f x none ≡ cleaned x
+pub clean-add : (f : Format) (x : Float) → T (fits f x) → add f x zeroPx ≡ cleaned x
 unfolding add cleaned
 clean-add f nan t = refl
 clean-add f (inf s) t = refl
-clean-add f (fin s zero e) t = same-float f (add f (fin s zero e) none) (fin false zero e) false 0 1 (zero-lt-suc 0) (add-fits f (fin s zero e) none) (unfold fits in t) (sign-of 1 (add f (fin s zero e) none) (pos 0) (zero-lt-suc 0) (q .0) (q .1)) (nothing false)
+clean-add f (fin s zero e) t = same-float f (add f (fin s zero e) zeroPx) (fin false zero e) false 0 1 (zero-lt-suc 0) (add-fits f (fin s zero e) zeroPx) (unfold fits in t) (sign-of 1 (add f (fin s zero e) zeroPx) (pos 0) (zero-lt-suc 0) (q .0) (q .1)) (nothing false)
   where
     nothing : (b : Bool) → HasValue (fin b zero e) b 0 1
     nothing b = (refl, ap (λ (n : ℕ). n * 1) (zero-mul (up e)) ∙ sym (zero-mul (down e)))
@@ -66,14 +66,14 @@ clean-add f (fin s zero e) t = same-float f (add f (fin s zero e) none) (fin fal
     own false = record { sign = false; size = 0; value = nothing false; total = refl }
     own true = record { sign = true; size = 0; value = nothing true; total = refl }
 
-    q : At 1 (add f (fin s zero e) none) (pos 0) × T (tidy (add f (fin s zero e) none))
+    q : At 1 (add f (fin s zero e) zeroPx) (pos 0) × T (tidy (add f (fin s zero e) zeroPx))
     q = clean-at f 0 zero-le zero-le (own s)
 clean-add f (fin s (suc m) e) t =
     let X = suc m * up e in
     let d = down e in
-    let same : add f (fin s (suc m) e) none ≡ round f s X d =
+    let same : add f (fin s (suc m) e) zeroPx ≡ round f s X d =
     sum-none f s (X * 1) (0 * 1 * d) (d * 1) (mul-pos (mul-pos (zero-lt-suc m) (up-pos e)) (zero-lt-suc 0)) (zero-mul d) ∙ ap₂ (λ (a b : ℕ). round f s a b) (mul-one X) (mul-one d) in
-    same-float f (add f (fin s (suc m) e) none) (fin s (suc m) e) s X d (down-pos e) (add-fits f (fin s (suc m) e) none) t
+    same-float f (add f (fin s (suc m) e) zeroPx) (fin s (suc m) e) s X d (down-pos e) (add-fits f (fin s (suc m) e) zeroPx) t
     (subst (λ (y : Float). HasValue y s X d) (sym same) (round-own f s m e t)) (refl, refl)
 
 -- cleaning twice is cleaning once

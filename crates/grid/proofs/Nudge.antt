@@ -1,23 +1,22 @@
 -- The grid test by adding and subtracting: between 2 ^ (prec - 7) and 2 ^ (prec - 6) a format's values are just the multiples of 1/64, so
 -- x + 2 ^ (prec - 7) is x moved to the grid, and taking that away again gives x back exactly where x was on it. Assumes nothing.
-use mathlib.Core.Path.{_≡_, refl, sym, ap, ap₂, _∙_, subst}
-use mathlib.Core.Logic.{_⊎_, inl, inr}
+use mathlib.Core.Path.{_≡_, refl, sym, ap, _∙_, subst}
 use mathlib.Core.Bool.{Bool, true, false, not, _&&_, _||_, Bool·beq, cond}
 use Prim.Native.Nat.{ℕ, zero, suc, _+_, _-_, _*_, _/_, _%_, _^_, _≤_, _<_, compare, zero-le}
-use native.Mathlib.Nat.{le-refl, le-trans, le-of-eq, le-of-lt, lt-of-lt-of-le, lt-of-le-of-lt, lt-irrefl, lt-of-not-le, not-le-of-lt, zero-lt-suc, le-antisymm, add-comm, add-sub-of-le, add-zero, one-mul, mul-one, zero-mul, zero-mod, mod-one, mul-comm, mul-assoc, mul-right-comm, mul-pos, mul-mod-left, mul-le-mul-right, add-mul, eq-of-mul-eq-mul-right, eq-zero-or-pos, two-pow-succ, div-add-mod', le-div-iff-mul-le, div-lt-iff-lt-mul, div-div-eq-div-mul}
+use native.Mathlib.Nat.{le-trans, le-of-eq, le-of-lt, lt-of-lt-of-le, lt-of-le-of-lt, lt-of-not-le, not-le-of-lt, zero-lt-suc, add-comm, add-sub-of-le, add-zero, one-mul, mul-one, zero-mul, zero-mod, mod-one, mul-assoc, mul-right-comm, mul-mod-left, mul-le-mul-right, add-mul, eq-of-mul-eq-mul-right, two-pow-succ, div-add-mod', le-div-iff-mul-le, div-lt-iff-lt-mul, div-div-eq-div-mul}
 use native.Mathlib.Omega.{arith}
-use lib.Dec.{T, leb, ltb, eqb, ltb→lt, lt→ltb, nltb→le, leb→le, nleb→lt, eqb→eq, eqb-refl, lit≤, lit<, leb·suc-zero}
+use lib.Dec.{T, ltb, eqb, ltb→lt, nltb→le, eqb→eq, eqb-refl, lit≤, lit<, leb·suc-zero}
 use lib.Pow.{pow-add, pow-pos, pow-lt, pow-mono}
-use lib.IntN.{ℤ, pos, negsuc, negℤ, natAbs, _+ℤ_, _-ℤ_}
-use lib.Ieee.{Float, nan, inf, fin, Format, binary32, binary64, prec, emax, low, up, down, size, round, sum, add, sub, neg, lt, eq, fits, level, below}
-use lib.Ieee.Fits.{down-pos, up-pos, kept-lt, nearest-le, neg-fits}
-use lib.Ieee.Digits.{size-lt, size-le, size-reaches}
+use lib.IntN.{ℤ, pos, negsuc, natAbs, _-ℤ_}
+use lib.Ieee.{Float, nan, inf, fin, Format, binary32, binary64, prec, emax, low, up, down, size, round, add, sub, neg, lt, eq, fits}
+use lib.Ieee.Fits.{down-pos, kept-lt, nearest-le, neg-fits}
+use lib.Ieee.Digits.{size-lt, size-le}
 use lib.Ieee.Scale.{finite, grid, overflow, round-val}
 use lib.Ieee.Order.{drop, kept}
 use lib.Ieee.Exact.{HasValue}
-use Rattle.grid.specs.Grid.{none, signed, At, onGrid, sixtyFourths}
+use Rattle.grid.specs.Grid.{zeroPx, signed, At, onGrid, sixtyFourths}
 use Rattle.grid.proofs.Exact.{rescale, add-nat, sub-nat, sub-at, eq-at}
-use Rattle.grid.proofs.Meaning.{at-of-grid, grid-of-at, fits-size, pow-le}
+use Rattle.grid.proofs.Meaning.{at-of-grid, fits-size}
 use Rattle.grid.proofs.Range.{two^}
 
 -- ---- the formats' numbers
@@ -171,7 +170,7 @@ zero-at s m e z = record { sign = s; size = 0; value = (refl, ap (λ (k : ℕ). 
     both false = refl
     both true = refl
 
-not-below : (m : ℕ) (e : ℤ) → lt (fin true m e) none ≡ false → m * up e ≡ 0
+not-below : (m : ℕ) (e : ℤ) → lt (fin true m e) zeroPx ≡ false → m * up e ≡ 0
 unfolding lt
 not-below m e h = go (m * up e) (nltb→le 0 (m * up e * 1 + 0 * 1 * down e) (subst (λ (b : Bool). T (not b)) (sym h) tt))
   where
@@ -193,7 +192,7 @@ come-back f m e u t =
     let v : n ≡ n / down e * down e = sym (div-add-mod' n (down e)) ∙ ap (λ (r : ℕ). n / down e * down e + r) (eqb→eq (n % down e) 0 t) ∙ add-zero (n / down e * down e) in
     back f (fin false m e) (n / down e) (at-of-grid (fin false m e) t) (few (m * up e) (down e) (n / down e) (2 ^ top f) (down-pos e) v u)
 
-pub nudge : (f : Format) (x : Float) → lt x none ≡ false → lt x (two^ (top f)) ≡ true → eq (nudged f x) x ≡ onGrid x
+pub nudge : (f : Format) (x : Float) → lt x zeroPx ≡ false → lt x (two^ (top f)) ≡ true → eq (nudged f x) x ≡ onGrid x
 unfolding lt
 nudge f nan h k = absurd (subst T (sym k) tt)
 nudge f (inf s) h k = absurd (subst T (sym (sym h ∙ k)) tt)
@@ -225,7 +224,7 @@ over : (f : Format) (m : ℕ) (e : ℤ) → lt (fin false m e) (two^ (top f)) �
 unfolding lt
 over f m e h = simp (mul-one, one-mul) at (nltb→le (m * up e * 1) (1 * 2 ^ top f * down e) (subst (λ (b : Bool). T (not b)) (sym h) tt))
 
-pub far : (f : Format) (x : Float) → T (fits f x) → lt x none ≡ false → lt x (two^ (top f)) ≡ false → finite x ≡ onGrid x
+pub far : (f : Format) (x : Float) → T (fits f x) → lt x zeroPx ≡ false → lt x (two^ (top f)) ≡ false → finite x ≡ onGrid x
 unfolding onGrid
 far f nan t h k = refl
 far f (inf s) t h k = refl
@@ -242,7 +241,7 @@ grid-neg (fin s m e) = refl
 no-less : (n d : ℕ) → ltb n (0 * 1 * d) ≡ false
 no-less n d = ap (λ (k : ℕ). ltb n k) (zero-mul d) ∙ leb·suc-zero n
 
-pub neg-not-below : (x : Float) → lt x none ≡ true → lt (neg x) none ≡ false
+pub neg-not-below : (x : Float) → lt x zeroPx ≡ true → lt (neg x) zeroPx ≡ false
 unfolding lt neg
 neg-not-below nan h = refl
 neg-not-below (inf true) h = refl
@@ -260,7 +259,7 @@ finite-neg (fin s m e) = refl
 abbrev tested : Format → Float → Bool
 tested f m = not (lt m (two^ (top f))) || eq (nudged f m) m
 
-tested-from-0 : (f : Format) (x : Float) → T (fits f x) → finite x ≡ true → lt x none ≡ false → tested f x ≡ onGrid x
+tested-from-0 : (f : Format) (x : Float) → T (fits f x) → finite x ≡ true → lt x zeroPx ≡ false → tested f x ≡ onGrid x
 tested-from-0 f x t h k = go (lt x (two^ (top f))) refl
   where
     go : (b : Bool) → lt x (two^ (top f)) ≡ b → (not b || eq (nudged f x) x) ≡ onGrid x
@@ -268,10 +267,10 @@ tested-from-0 f x t h k = go (lt x (two^ (top f))) refl
     go false e = sym h ∙ far f x t k e
 
 -- the magnitude m of x is tested
-pub multiple : (f : Format) (x m : Float) → T (fits f x) → finite x ≡ true → m ≡ cond (lt x none) (neg x) x → (not (lt m (two^ (top f))) || eq (nudged f m) m) ≡ onGrid x
-multiple f x m t h p = ap (tested f) p ∙ go (lt x none) refl
+pub multiple : (f : Format) (x m : Float) → T (fits f x) → finite x ≡ true → m ≡ cond (lt x zeroPx) (neg x) x → (not (lt m (two^ (top f))) || eq (nudged f m) m) ≡ onGrid x
+multiple f x m t h p = ap (tested f) p ∙ go (lt x zeroPx) refl
   where
-    go : (b : Bool) → lt x none ≡ b → tested f (cond b (neg x) x) ≡ onGrid x
+    go : (b : Bool) → lt x zeroPx ≡ b → tested f (cond b (neg x) x) ≡ onGrid x
     go true e = tested-from-0 f (neg x) (neg-fits f x t) (finite-neg x ∙ h) (neg-not-below x e) ∙ grid-neg x
     go false e = tested-from-0 f x t h e
 

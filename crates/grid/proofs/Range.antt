@@ -12,7 +12,7 @@ use lib.Ieee.Fits.{down-pos}
 use lib.Ieee.Scale.{finite}
 use Rattle.grid.specs.Grid.{signed, At, onGrid, sixtyFourths, within}
 use Rattle.grid.proofs.Exact.{le-at}
-use Rattle.grid.proofs.Meaning.{at-of-grid, none, none-at}
+use Rattle.grid.proofs.Meaning.{at-of-grid, zeroPx, none-at}
 
 -- the float 2 ^ k
 abbrev pub two^ : ℕ → Float
@@ -54,7 +54,7 @@ range-test k (fin s m e) = go s (le-at (down e) (down-pos e) own high) (le-at (d
     go true p q = ap₂ (λ (a b : Bool). cond a b false) (p ∙ above-neg (m * up e) (2 ^ k * down e)) (q ∙ neg-le (2 ^ k * down e) (m * up e))
 
 -- what is not below 0 is not below -2 ^ k
-above-none : (k : ℕ) (x : Float) → le none x ≡ true → le (neg (two^ k)) x ≡ true
+above-none : (k : ℕ) (x : Float) → le zeroPx x ≡ true → le (neg (two^ k)) x ≡ true
 unfolding le neg
 above-none k nan h = absurd (false≢true h)
 above-none k (inf false) h = refl
@@ -76,8 +76,8 @@ above-none k (fin s m e) h = le-at (down e) (down-pos e) low (own s) ∙ go s (s
         zero-or (suc n) q = absurd (false≢true q)
 
 -- the same where a number may not be below 0
-pub range-from-0 : (k : ℕ) (x : Float) → cond (le x (two^ k)) (le none x) false ≡ within (2 ^ k) x && le none x
-range-from-0 k x = go (le none x) (above-none k x) (range-test k x)
+pub range-from-0 : (k : ℕ) (x : Float) → cond (le x (two^ k)) (le zeroPx x) false ≡ within (2 ^ k) x && le zeroPx x
+range-from-0 k x = go (le zeroPx x) (above-none k x) (range-test k x)
   where
     go : (b : Bool) → (b ≡ true → le (neg (two^ k)) x ≡ true) → cond (le x (two^ k)) (le (neg (two^ k)) x) false ≡ within (2 ^ k) x → cond (le x (two^ k)) b false ≡ within (2 ^ k) x && b
     go true f e = ap (λ (d : Bool). cond (le x (two^ k)) d false) (sym (f refl)) ∙ e ∙ sym (and-true (within (2 ^ k) x))

@@ -20,8 +20,8 @@ pub record At (u : ℕ) (x : Float) (z : ℤ) : Type 0 where
   pub total : signed sign size ≡ z
 
 -- 0.0
-abbrev pub none : Float
-none = fin false 0 (pos 0)
+abbrev pub zeroPx : Float
+zeroPx = fin false 0 (pos 0)
 
 -- "on the grid when it is a whole multiple of 1/64 px": a finite x is m · 2^e, the fraction m · up e / down e
 unfoldable pub onGrid : Float → Bool

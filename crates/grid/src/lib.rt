@@ -5,7 +5,9 @@ ghost use lib.IntN.{natAbs};
 ghost use mathlib.Core.Bool.{true, cond};
 ghost use lib.Ieee.{lt, neg};
 ghost use lib.Ieee.Scale.{finite};
-ghost use Rattle.grid.specs.Grid.{At, none, onGrid, Length, sixtyFourths, cleaned};
+ghost use Rattle.grid.specs.Grid.{At, zeroPx, onGrid, Length, sixtyFourths, cleaned};
+
+pub mod floats; // floats.rt: f32 as the definitions write it
 
 // Whole sixty-fourths of a pixel. Pixels are plain floats, so neither can stand where the other is meant.
 pub struct Sixtyfourths(pub i32);
@@ -18,7 +20,7 @@ pub fn is_finite(x: f32) -> bool
 }
 
 fn magnitude(x: f32) -> f32
-    ensures { λ r. ⌜ r ≡ cond (lt x none) (neg x) x ⌝ }
+    ensures { λ r. ⌜ r ≡ cond (lt x zeroPx) (neg x) x ⌝ }
 {
     if x < 0.0 { -x } else { x }
 }

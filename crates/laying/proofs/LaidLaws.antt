@@ -12,8 +12,8 @@ use Rattle.grid.specs.Grid.{cleaned}
 use Rattle.grid.specs.Floats.{nought}
 use Rattle.flexing.specs.declared.Item.{Item}
 use Rattle.flexing.specs.Items.{itemAt, itemsOf}
-use Rattle.rounds.specs.Cells.{itemsIn, Held}
-use Rattle.rounds.proofs.Columns.{items-are}
+use Rattle.itemtable.specs.Table.{itemsIn, Held}
+use Rattle.itemtable.proofs.Columns.{items-are}
 use Rattle.flexlines.specs.Lines.{FlexedLines}
 use Rattle.align.specs.Align.{contentOf}
 use Rattle.mainlines.specs.Main.{MainLines}

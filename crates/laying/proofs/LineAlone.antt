@@ -9,7 +9,7 @@ use lib.Seq.{getD-take, getD-drop}
 use lib.Ieee.{Float, nan}
 use Rattle.grid.specs.Floats.{each}
 use Rattle.flexing.specs.Items.{itemAt}
-use Rattle.rounds.proofs.Each.{each-ext}
+use Rattle.itemtable.proofs.Each.{each-ext}
 use Rattle.flexlines.specs.Lines.{lineStart, lineItems, part}
 use Rattle.flexlines.proofs.Alone.{SameFlexed, flexed-alone}
 use Rattle.mainlines.proofs.Spacing.{same-line, main-independent}

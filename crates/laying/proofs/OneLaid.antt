@@ -10,7 +10,7 @@ use lib.IntN.{ℤ}
 use lib.Ieee.{Float}
 use Rattle.grid.specs.Grid.{cleaned}
 use Rattle.flexing.specs.Items.{itemAt, itemsOf}
-use Rattle.rounds.proofs.Each.{length-each}
+use Rattle.itemtable.proofs.Each.{length-each}
 use Rattle.flexlines.specs.Lines.{FlexedLines}
 use Rattle.flexlines.proofs.Alone.{OneFlexed, one-flexed}
 use Rattle.wrapping.specs.Wrapping as wrapping

@@ -6,7 +6,7 @@ use lib.IntN.{ℤ}
 use lib.Ieee.{Float}
 use Rattle.grid.specs.Grid.{Length, cleaned}
 use Rattle.flexing.specs.Flex.{outerSum}
-use Rattle.rounds.specs.Cells.{itemsIn, Tabled, Held}
+use Rattle.itemtable.specs.Table.{itemsIn, Tabled, Held}
 use Rattle.wrapping.specs.Wrapping as wrapping
 use Rattle.container.specs.declared.Container.{Container}
 use Rattle.container.specs.Columns.{column, mainLists}

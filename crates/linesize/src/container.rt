@@ -2,8 +2,8 @@
 ghost use mathlib.Core.Path.{_≡_};
 ghost use Rattle.linesize.specs.Container.{wrapOf, isSingleLine, isReversed, loweredTo, readBound, readCross, bounded, innerSize, orBounded};
 use breaklimit::Bound;
-use breaklimit::lower;
 use breaklimit::raise_to;
+use grid::floats::lower;
 
 pub enum Wrap {
     NoWrap,

@@ -5,8 +5,8 @@ ghost use lib.ListN.{length};
 ghost use Rattle.linesize.specs.CrossSize.{clamp, orNought, margins, outerSize, readItem, items, Even, itemAt, largestOuter, lineSize, lineOf};
 use crate::container;
 use crate::container::Cross;
-use breaklimit::lower;
-use breaklimit::raise;
+use grid::floats::lower;
+use grid::floats::raise;
 
 // What an item's cross size and margins turn on. `capped` says that there is a maximum; `edges` is padding plus border.
 pub struct CrossItem {

@@ -1,5 +1,5 @@
 -- The call for the main axis: its numbers' marks are its checks, a refusal changes nothing, and any two results that its contract allows are equal. Assumes nothing.
-use mathlib.Core.Path.{_≡_, refl, sym, ap, ap₂, _∙_, subst}
+use mathlib.Core.Path.{_≡_, sym, ap, ap₂, _∙_, subst}
 use mathlib.Core.Bool.{Bool, not}
 use mathlib.Core.List.{List, [], _∷_, _++_}
 use Prim.Native.Nat.{ℕ, _+_, _≤_, min}
@@ -12,7 +12,7 @@ use Rattle.refusal.specs.declared.Verdict.the-variants.{Passed, Refused}
 use Rattle.refusal.specs.declared.Answer.{Answer}
 use Rattle.refusal.specs.declared.Answer.the-variants.{Done}
 use Rattle.refusal.specs.Domain.{checked, then, asAnswer}
-use Rattle.refusal.specs.Marks.{leastOf, leastUpTo, leastMark, judged}
+use Rattle.refusal.specs.Marks.{leastOf, leastUpTo, judged}
 use Rattle.align.specs.declared.ContentAlignment.{ContentAlignment}
 use Rattle.align.specs.Align.{contentOf}
 use Rattle.mainaxis.specs.MainAxis.{Line, count, Even, Spaced}

@@ -4,9 +4,10 @@ ghost use Prim.Native.Nat.{_≤_};
 ghost use lib.ListN.{length};
 ghost use Rattle.align.specs.Lists.{total};
 ghost use Rattle.align.specs.Axis.{autos};
-ghost use Rattle.mainaxis.specs.MainAxis.{Line, line, Even, outer, outerAt, freeSpace, autoShare, justified, Spaced};
+ghost use Rattle.mainaxis.specs.MainAxis.{line, Even, outer, outerAt, freeSpace, autoShare, justified, Spaced};
 use align::ContentAlignment;
 use align::axis;
+use grid::floats::sum_axis_gaps;
 
 // An item with its margins, auto ones as 0.
 fn outer_size(target: f32, auto_start: u32, start: f32, auto_end: u32, end: f32) -> f32
@@ -50,7 +51,7 @@ fn free_space<'a>(
     requires { ⌜ Even (line (now targets) (now start) (now end) (now «auto_start») (now «auto_end»)) ⌝ }
     ensures { λ r. ⌜ r ≡ freeSpace inner gap (line (now (targets .entry)) (now (start .entry)) (now (end .entry)) (now («auto_start» .entry)) (now («auto_end» .entry))) ⌝ }
 {
-    let between = axis::sum_axis_gaps(grid::clean(gap), targets.len());
+    let between = sum_axis_gaps(grid::clean(gap), targets.len());
     let taken = between + outer_sum(targets, start, end, auto_start, auto_end);
     grid::clean(inner) - taken
 }

@@ -1,7 +1,6 @@
 // The call for the main axis of one line, on any bits.
 ghost use mathlib.Core.Path.{_≡_};
 ghost use mathlib.Core.List.{[], _∷_};
-ghost use lib.ListN.{length};
 ghost use Rattle.refusal.specs.Domain.{checked};
 ghost use Rattle.refusal.specs.Marks.{leastOf};
 ghost use Rattle.refusal.specs.declared.Verdict.the-variants.{Passed};

@@ -3,7 +3,7 @@ use mathlib.Core.Path.{_≡_, sym, ap, _∙_, subst}
 use mathlib.Core.Logic.{inr}
 use mathlib.Core.Bool.{Bool}
 use mathlib.Core.List.{List, _++_}
-use Prim.Native.Nat.{ℕ, _*_, _+_, _≤_}
+use Prim.Native.Nat.{ℕ, _*_, _≤_}
 use native.Mathlib.Nat.{le-trans, le-of-eq}
 use native.Mathlib.Omega.{arith}
 use lib.ListN.{length, drop, take, length-append, length-replicate, drop-of-length-le}
@@ -12,7 +12,7 @@ use lib.IntN.{ℤ}
 use lib.Ieee.{Float}
 use Rattle.grid.specs.Grid.{cleaned}
 use Rattle.flexing.specs.Items.{itemAt}
-use Rattle.rounds.specs.Cells.{itemIn}
+use Rattle.itemtable.specs.Table.{itemIn}
 use Rattle.flexlines.specs.Lines.{FlexedLines}
 use Rattle.flexlines.specs.Parts.{Lined}
 use Rattle.flexlines.proofs.Going.{lines-as}

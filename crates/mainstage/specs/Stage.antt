@@ -7,7 +7,7 @@ use lib.IntN.{ℤ}
 use lib.Ieee.{Float}
 use Rattle.grid.specs.Grid.{cleaned}
 use Rattle.flexing.specs.Items.{itemAt}
-use Rattle.rounds.specs.Cells.{Held}
+use Rattle.itemtable.specs.Table.{Held}
 use Rattle.flexlines.specs.Lines.{FlexedLines}
 use Rattle.flexlines.specs.Parts.{Lined}
 use Rattle.align.specs.Align.{contentOf}

@@ -1,7 +1,7 @@
 // The main axis of the whole pass: each line flexed, and its items spaced (document 01, "Flexible lengths" and "Main axis").
 ghost use mathlib.Core.Path.{_≡_};
 ghost use mathlib.Core.Bool.{_||_};
-ghost use Prim.Native.Nat.{_+_, _*_, _≤_};
+ghost use Prim.Native.Nat.{_*_, _≤_};
 ghost use lib.Dec.{eqb};
 ghost use lib.ListN.{length};
 ghost use Rattle.mainstage.specs.Stage.{Ready, Run, MainStage};

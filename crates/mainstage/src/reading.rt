@@ -1,6 +1,6 @@
 // The items' numbers on the main axis, out of the lists that the pass is handed.
 ghost use Prim.Native.Nat.{_*_};
-ghost use Rattle.rounds.specs.Cells.{Wide, Held, Kept};
+ghost use Rattle.itemtable.specs.Table.{Wide, Held, Kept};
 ghost use Rattle.container.specs.Columns.{mainLists};
 ghost use Rattle.container.specs.Stages.{Listed};
 use container::columns::code_column;
@@ -12,7 +12,7 @@ pub fn read_main<'a>(n: usize, numbers: &'a [f32], codes: &'a [u32], table: &mut
     ensures { λ _. ⌜ Held (mainLists n (now (numbers .entry)) (now (codes .entry))) (now (table .exit)) ⌝ }
     ensures { λ _. ⌜ Kept (8 * n) (now (table .entry)) (now (table .exit)) ⌝ }
 {
-    rounds::table::read_items(
+    itemtable::read_items(
         column(numbers, n, 0),
         column(numbers, n, 1),
         column(numbers, n, 2),

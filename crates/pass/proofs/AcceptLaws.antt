@@ -23,8 +23,8 @@ use Rattle.refusal.specs.declared.Kind.the-variants as kind
 use Rattle.refusal.proofs.Checks.{judged-checked, accepted, then-passed, shape-passed, fine-append, fine-length, fine-size, fine-code}
 use Rattle.breaking.specs.Steps.{LengthLimit}
 use Rattle.flexing.specs.Flex.{outerSum}
-use Rattle.rounds.specs.Cells.{Wide, itemsIn, Tabled, Held}
-use Rattle.rounds.proofs.Columns.{tabled-of}
+use Rattle.itemtable.specs.Table.{Wide, itemsIn, Tabled, Held}
+use Rattle.itemtable.proofs.Columns.{tabled-of}
 use Rattle.flexchecks.specs.Input.{inputOf}
 use Rattle.flexchecks.proofs.Accept.{inner-length, gap-length, measured-of, refused-then, passed-then}
 use Rattle.wrapping.specs.declared.Mode.the-variants.{Single, Greedy, Balanced}

@@ -1,5 +1,4 @@
 // The whole pass on plain lists: breaking, flexing, the main axis and the cross axis of one container.
-ghost use mathlib.Core.Path.{_≡_};
 ghost use Rattle.refusal.specs.Domain.{summed};
 ghost use Rattle.passchecks.specs.Checks.{passSum};
 ghost use Rattle.laying.specs.Laid.{lent};
@@ -39,7 +38,7 @@ fn pass_checked<'a>(
     let mut table = [0.0; 8192];
     mainstage::reading::read_main(n, numbers, codes, &mut table);
     let gap = grid::clean(c.gap_main);
-    let v = refusal::check_sum(rounds::sum::outer_sum(&table, n, gap));
+    let v = refusal::check_sum(itemtable::sum::outer_sum(&table, n, gap));
     match v {
         Verdict::Refused(why) => PassAnswer::Refused(why),
         Verdict::Passed => {

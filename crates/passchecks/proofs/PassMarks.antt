@@ -1,12 +1,12 @@
 -- The least of all marks is that of the input: the marks of its parts make those of the whole. Assumes nothing.
-use mathlib.Core.Path.{_≡_, refl, sym, ap, ap₂, _∙_, subst}
+use mathlib.Core.Path.{_≡_, sym, ap, ap₂, _∙_, subst}
 use mathlib.Core.List.{List, _++_}
-use Prim.Native.Nat.{ℕ, _+_, _≤_, min}
+use Prim.Native.Nat.{ℕ, _+_, min}
 use native.Mathlib.Omega.{arith}
 use lib.Dec.{eqb}
 use lib.ListN.{length}
 use lib.Ieee.{Float}
-use Rattle.refusal.specs.Domain.{Number, float, code}
+use Rattle.refusal.specs.Domain.{float, code}
 use Rattle.refusal.specs.Optional.{optional}
 use Rattle.refusal.specs.Marks.{mark, leastOf, leastUpTo, leastMark}
 use Rattle.refusal.specs.declared.Kind.the-variants.{Length}

@@ -1,15 +1,14 @@
 -- What checks 1 and 2 show of the items' lists: each of their columns is there, and of n cells. Assumes nothing.
-use mathlib.Core.Path.{_≡_, refl, sym, ap, _∙_}
+use mathlib.Core.Path.{_≡_, sym, _∙_}
 use mathlib.Core.List.{List}
-use Prim.Native.Nat.{ℕ, suc, _+_, _*_, _≤_, _<_}
+use Prim.Native.Nat.{ℕ, _*_, _<_}
 use native.Mathlib.Nat.{le-trans, le-of-eq}
 use native.Mathlib.Omega.{arith}
 use lib.ListN.{length}
 use lib.Ieee.{Float}
-use Rattle.flexing.specs.Items.{Lists, lists}
+use Rattle.flexing.specs.Items.{lists}
 use Rattle.flexing.specs.Accepted.{Even}
-use Rattle.linesize.specs.CrossSize.{Items, items}
-use Rattle.linesize.specs.CrossSize as cross
+use Rattle.linesize.specs.CrossSize.{items}
 use Rattle.crossaxis.specs.CrossAxis.{Sorted}
 use Rattle.container.specs.Columns.{column, mainLists, crossItems, alignSelf, autoSize}
 use Rattle.container.specs.Stages.{Inside, Listed}

@@ -1,10 +1,9 @@
 -- What the pass takes and checks (document 01, "Domain and refusal numbers"): the container's numbers, the items' on both axes, and the room of the
 -- lent lists. Assumes nothing.
 use mathlib.Core.Bool.{Bool, true, cond, _&&_}
-use mathlib.Core.List.{List, [], _∷_, _++_}
+use mathlib.Core.List.{List, _∷_, _++_}
 use Prim.Native.Nat.{ℕ, _+_, _*_}
 use lib.Dec.{eqb, leb}
-use lib.ListN.{length}
 use lib.Ieee.{Float}
 use Rattle.grid.specs.Grid.{cleaned}
 use Rattle.refusal.specs.Domain.{Number, float, code, Input, checked, shape, summed, then}

@@ -1,10 +1,8 @@
 -- The lists that the pass reads of the unpacked items are the items' fields: each list by its own field, on both axes. Assumes nothing.
 use mathlib.Core.Path.{_≡_}
 use mathlib.Core.List.{List, map}
-use Prim.Native.Nat.{ℕ}
 use lib.Dec.{lit<}
 use lib.ListN.{length}
-use lib.Ieee.{Float}
 use Rattle.flexing.specs.Items.{lists}
 use Rattle.linesize.specs.CrossSize.{items}
 use Rattle.container.specs.Columns.{column, mainLists, crossItems, alignSelf, autoSize}

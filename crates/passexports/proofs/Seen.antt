@@ -1,10 +1,10 @@
 -- What the pass says of the first 1,025 items is what it says of them all: of up to 1,025 they are all, and of more it refuses as of 1,025. Assumes nothing.
 use mathlib.Core.Path.{_≡_, refl, sym, _∙_, ap, subst}
-use Prim.Native.Nat.{ℕ, _*_, _≤_, _<_, min}
-use native.Mathlib.Nat.{min-le-left, min-eq-left, min-eq-right, le-refl}
+use Prim.Native.Nat.{ℕ, _*_, _<_, min}
+use native.Mathlib.Nat.{min-le-left, min-eq-left, le-refl}
 use native.Mathlib.Omega.{arith}
 use mathlib.Core.Bool.{Bool, true, false, not, true≢false}
-use mathlib.Core.List.{List, [], _∷_, _++_}
+use mathlib.Core.List.{List, _++_}
 use lib.Dec.{T, leb, leb→le, nleb→lt}
 use lib.ListN.{length, take}
 use lib.Seq.{take-all}

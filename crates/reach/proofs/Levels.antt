@@ -10,7 +10,7 @@ use lib.Ieee.{Float, lt}
 use Rattle.flexing.specs.declared.Share.{Share}
 use Rattle.grid.specs.Floats.{nought}
 use Rattle.flexing.specs.Flex.{Cell, left, violation, freezes, settle}
-use Rattle.flexing.proofs.Signs.{All}
+use Rattle.flexlaws.proofs.Signs.{All}
 use Rattle.reach.proofs.Units.{px, far, one-side}
 use Rattle.reach.proofs.Clamp.{bounded, bounded-mono}
 use Rattle.reach.proofs.Totals.{all-map, count, count-all, count-same, count-map, count-none, count-both}

@@ -11,7 +11,7 @@ use lib.ListN.{length}
 use lib.Ieee.{Float, lt, neg}
 use Rattle.grid.specs.Floats.{nought, unity, _⊗_}
 use Rattle.flexing.specs.Flex.{Cell, magnitude, limited, left, total, factor, weight}
-use Rattle.flexing.proofs.Signs.{All}
+use Rattle.flexlaws.proofs.Signs.{All}
 use Rattle.reach.proofs.Units.{px, Num, far, one-side, neg-num, lt-num}
 use Rattle.reach.proofs.Times.{product, Product, mul-num, nought-num, unity-num}
 use Rattle.reach.proofs.Totals.{all-map, count, count-most, count-long, Above, total-above}

@@ -27,7 +27,7 @@ use Rattle.flexing.specs.declared.Line.{Line}
 use Rattle.grid.specs.Floats.{nought, each}
 use Rattle.flexing.specs.Flex.{Cell, after, round, begun, first, grows, lineOf, targets, outerSum}
 use Rattle.flexing.specs.Items.{Lists, count, itemAt, itemsOf}
-use Rattle.rounds.proofs.Each.{length-each}
+use Rattle.itemtable.proofs.Each.{length-each}
 use Rattle.flexcalls.specs.declared.FlexAnswer.the-variants.{Done}
 use Rattle.flexchecks.specs.Input.{shapeOf, plainAt, inputOf}
 use Rattle.flexcalls.specs.Call.{lineVerdict, FlexedLine}

@@ -17,7 +17,7 @@ use Rattle.flexing.specs.declared.Item.{Item}
 use Rattle.grid.specs.Floats.{raised, lowered, gaps, _⊗_}
 use Rattle.flexing.specs.Flex.{clamp, hypothetical, outerUnits, sumUnits, freeBefore, outerSum}
 use Rattle.reach.specs.Reach.{IsSize, IsItem, Each}
-use Rattle.flexing.proofs.Signs.{All}
+use Rattle.flexlaws.proofs.Signs.{All}
 use Rattle.reach.proofs.Units.{px, px-pos, Num, far}
 use Rattle.reach.proofs.Times.{product, product-near, product-close, mul-num, whole-num, nought-num}
 use Rattle.reach.proofs.Clamp.{Upto, bounded, clamp-num}

@@ -16,7 +16,7 @@ use Rattle.flexing.specs.declared.Share.{Share}
 use Rattle.grid.specs.Floats.{gaps}
 use Rattle.flexing.specs.Flex.{Cell, left, unfrozen, settle, round, after, begun, lineOf, Runs, targets}
 use Rattle.reach.specs.Reach.{IsLine, Each, HandedOn}
-use Rattle.flexing.proofs.Signs.{All}
+use Rattle.flexlaws.proofs.Signs.{All}
 use Rattle.reach.proofs.Units.{px}
 use Rattle.reach.proofs.Clamp.{Upto}
 use Rattle.reach.proofs.Space.{Sound, haves, useds}

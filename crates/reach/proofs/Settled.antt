@@ -14,7 +14,7 @@ use Rattle.flexing.specs.declared.Item.{Item}
 use Rattle.flexing.specs.declared.Share.{Share}
 use Rattle.grid.specs.Floats.{nought}
 use Rattle.flexing.specs.Flex.{Cell, left, total, flexed, clamp, violation, freezes, settle, weight}
-use Rattle.flexing.proofs.Signs.{All}
+use Rattle.flexlaws.proofs.Signs.{All}
 use Rattle.reach.proofs.Units.{px, Num, far, one-side, lt-num}
 use Rattle.reach.proofs.Times.{nought-num}
 use Rattle.reach.proofs.Totals.{all-map, count, count-long, Near, total-near}

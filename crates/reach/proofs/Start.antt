@@ -14,7 +14,7 @@ use Rattle.flexing.specs.declared.Item.{Item}
 use Rattle.grid.specs.Floats.{gaps, nought}
 use Rattle.flexing.specs.Flex.{Cell, hypothetical, outerUnits, sumUnits, freeBefore, grows, inflexible, factor, first, begun, remaining, lineOf}
 use Rattle.reach.specs.Reach.{IsItem, IsLine}
-use Rattle.flexing.proofs.Signs.{All}
+use Rattle.flexlaws.proofs.Signs.{All}
 use Rattle.reach.proofs.Units.{px, far, lt-num}
 use Rattle.reach.proofs.Clamp.{Upto, bounded, bounded-small}
 use Rattle.reach.proofs.Totals.{all-map, count, count-map, count-alike}

@@ -11,7 +11,7 @@ use lib.ListN.{length}
 use lib.Ieee.{Float}
 use Rattle.grid.specs.Floats.{_⊕_}
 use Rattle.flexing.specs.Flex.{sumFrom}
-use Rattle.flexing.proofs.Signs.{All}
+use Rattle.flexlaws.proofs.Signs.{All}
 use Rattle.reach.proofs.Units.{Num, far, fl, fl-near, fl-mono, held-num, one-side}
 use Rattle.reach.proofs.Plus.{Sum, sum-num, sum-near, sum-under, sum-above}
 

@@ -1,5 +1,5 @@
 -- Checks 1 and 2 of a call, from the lengths of its lists (document 01, "Domain and refusal numbers"). Assumes nothing.
-use mathlib.Core.Bool.{Bool, true, false, _&&_}
+use mathlib.Core.Bool.{Bool, true, _&&_}
 use mathlib.Core.List.{List, [], _∷_}
 use Prim.Native.Nat.{ℕ, max}
 use lib.Dec.{eqb, leb}

@@ -15,10 +15,11 @@ use Rattle.flexing.specs.declared.Sums.{Sums}
 use Rattle.flexing.specs.Flex.{Cell, first, remaining, after, Runs, freeBefore, grows, begun, lineOf, Flexed}
 use Rattle.flexing.specs.Steps.{Summed, spaceLeft}
 use Rattle.grid.specs.Grid.{cleaned}
-use Rattle.rounds.specs.Cells.{itemIn, itemsIn, cellAt, cellsOf, Kept, Rewritten, Ran}
-use Rattle.rounds.proofs.Each.{length-each, map-each}
-use Rattle.flexing.proofs.Round.{remaining-is}
-use Rattle.flexing.proofs.Falls.{rounds-few}
+use Rattle.itemtable.specs.Table.{itemIn, itemsIn, Kept}
+use Rattle.rounds.specs.Cells.{cellAt, cellsOf, Rewritten, Ran}
+use Rattle.itemtable.proofs.Each.{length-each, map-each}
+use Rattle.flexlaws.proofs.Round.{remaining-is}
+use Rattle.flexlaws.proofs.Falls.{rounds-few}
 
 -- ---- a list by its first n elements and the rest
 

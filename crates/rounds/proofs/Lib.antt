@@ -1,4 +1,2 @@
-pub mod Each
 pub mod Loop
 pub mod Finish
-pub mod Columns

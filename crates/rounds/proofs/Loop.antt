@@ -10,9 +10,10 @@ use lib.ListN.{length}
 use lib.Ieee.{Float}
 use Rattle.flexing.specs.declared.Line.{Line}
 use Rattle.flexing.specs.Flex.{Cell, unfrozen, round, after}
-use Rattle.rounds.specs.Cells.{cellAt, cellsOf, Kept, Rewritten, Ran}
-use Rattle.rounds.proofs.Each.{length-each}
-use Rattle.flexing.proofs.Falls.{falls, rounds-left}
+use Rattle.itemtable.specs.Table.{Kept}
+use Rattle.rounds.specs.Cells.{cellAt, cellsOf, Rewritten, Ran}
+use Rattle.itemtable.proofs.Each.{length-each}
+use Rattle.flexlaws.proofs.Falls.{falls, rounds-left}
 
 pub record Running (t : List Float) (from n : ℕ) (ln : Line) (frozen₀ : List Bool) (targets₀ : List Float) (frozen : List Bool) (targets : List Float) (rounds : ℕ) : Type 0 where
   pub marks : length frozen ≡ length frozen₀

@@ -1,25 +1,26 @@
 // A line: its free space before flexing, the items that are frozen at first, and the rounds while an item is unfrozen.
 ghost use mathlib.Core.Path.{_≡_};
-ghost use mathlib.Core.List.{List, map};
+ghost use mathlib.Core.List.{map};
 ghost use Prim.Native.Nat.{ℕ, _+_, _≤_, _<_};
 ghost use lib.ListN.{length, getD};
-ghost use lib.Ieee.{Float, nan};
+ghost use lib.Ieee.{nan};
 ghost use Rattle.grid.specs.Grid.{cleaned};
 ghost use Rattle.flexing.specs.Flex.{total, outer, hypothetical, first, freeBefore, Flexed};
 ghost use Rattle.flexing.specs.Accepted.{Accepted};
 ghost use Rattle.flexing.specs.Steps.{Summed};
-ghost use Rattle.rounds.specs.Cells.{Wide, itemsIn, cellsOf, Kept, Room, Rewritten, Ran};
+ghost use Rattle.itemtable.specs.Table.{Wide, itemsIn, Kept};
+ghost use Rattle.rounds.specs.Cells.{cellsOf, Room, Rewritten, Ran};
 use crate::rounds::one_round;
 use crate::rounds::sum_up;
-use crate::table::pick;
 use flexing::Line;
 use flexing::Sums;
-use flexing::sharing::gaps_of;
 use flexing::sharing::is_growing;
 use flexing::sharing::space_left;
 use flexing::sizes::hypothetical_size;
 use flexing::sizes::is_inflexible;
 use flexing::sizes::outer_size;
+use grid::floats::sum_axis_gaps;
+use itemtable::pick;
 
 // The sum of the hypothetical outer sizes.
 fn hypothetical_sum(table: &[f32], from: usize, n: usize) -> f32
@@ -41,7 +42,7 @@ fn free_before(table: &[f32], from: usize, n: usize, inner: f32, gap: f32) -> gr
     requires { ⌜ Wide (now table) (from + n) × Accepted inner gap (itemsIn (now table) from n) ⌝ }
     ensures { λ r. ⌜ r .0 ≡ freeBefore inner gap (itemsIn (now (table .entry)) from n) ⌝ }
 {
-    let used = gaps_of(gap, n) + hypothetical_sum(table, from, n);
+    let used = sum_axis_gaps(gap, n) + hypothetical_sum(table, from, n);
     let a = grid::to_sixtyfourths(inner);
     let b = grid::to_sixtyfourths(used);
     grid::Sixtyfourths(a.0 - b.0)

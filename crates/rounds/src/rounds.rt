@@ -1,13 +1,10 @@
 // One round of the loop, steps 4b to 4e, over a line's items and their frozen marks and targets.
 ghost use mathlib.Core.Path.{_≡_};
-ghost use mathlib.Core.List.{List, map};
-ghost use Prim.Native.Nat.{ℕ, _+_, _≤_};
-ghost use lib.ListN.{length};
-ghost use lib.Ieee.{Float};
+ghost use mathlib.Core.List.{map};
+ghost use Prim.Native.Nat.{_+_};
 ghost use Rattle.flexing.specs.Flex.{total, left, violation, round};
 ghost use Rattle.flexing.specs.Steps.{Summed, sized, settled};
 ghost use Rattle.rounds.specs.Cells.{cellsOf, Room, Rewritten};
-use crate::table::pick;
 use flexing::Line;
 use flexing::Share;
 use flexing::Sums;
@@ -16,6 +13,7 @@ use flexing::sharing::share_of;
 use flexing::sizes::clamped;
 use flexing::sizes::flexed_size;
 use flexing::sizes::is_frozen;
+use itemtable::pick;
 
 pub fn sum_up(
     table: &[f32],

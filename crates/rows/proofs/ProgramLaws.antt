@@ -14,10 +14,12 @@ use Rattle.rule.proofs.DpLaws.{lt-or-ge, Order, order, less, same, more, G-mono
 use Rattle.rule.proofs.EndsLaws.{covers-start}
 use Rattle.rule.specs.Sizes.{pre, sizeAt, squareAt, ZeroAt}
 use Rattle.rule.proofs.SizesLaws.{laws}
-use Rattle.choice.specs.Whole.{Holds}
-use Rattle.choice.proofs.WholeLaws.{whole-is, mul-holds}
-use Rattle.choice.specs.Cells.{sizeF, Ghost, ends, value, Ready, RowIn, Choice, CoversIn, Safe, EndsFeas, RowOut}
-use Rattle.choice.proofs.Steps.{size-holds, small-square, row-laws}
+use Rattle.cells.specs.Whole.{Holds}
+use Rattle.cells.proofs.WholeLaws.{whole-is, mul-holds}
+use Rattle.cells.specs.Sums.{sizeF, ends}
+use Rattle.choice.specs.Cells.{Ghost, value, Ready, RowIn, Choice, CoversIn, Safe, EndsFeas, RowOut}
+use Rattle.cells.proofs.SumsLaws.{size-holds}
+use Rattle.choice.proofs.Steps.{small-square, row-laws}
 use Rattle.fitting.specs.Tables.{SumsAre, Falling, Reaches, FirstFor}
 use Rattle.rows.specs.Program.{counted, TablesAre, Within, PrevIs, RowSafe, RowFor, OneRow, RowKept, RowsSoFar, RowBase}
 

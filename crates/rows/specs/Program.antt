@@ -7,8 +7,9 @@ use lib.Ieee.{Float, nan}
 use Rattle.rule.specs.Natural.{Limit}
 use Rattle.rule.specs.Dp.{Argmin, Feas, Usable, Costs}
 use Rattle.rule.specs.Sizes.{squareAt, FitEnd, GreedyCounts, ZeroAt}
-use Rattle.choice.specs.Whole.{Holds}
-use Rattle.choice.specs.Cells.{Ghost, ends, value, RowIn, Choice}
+use Rattle.cells.specs.Whole.{Holds}
+use Rattle.cells.specs.Sums.{ends}
+use Rattle.choice.specs.Cells.{Ghost, value, RowIn, Choice}
 use Rattle.fitting.specs.Tables.{SumsAre, FitRange, Falling, Reaches}
 
 abbrev pub counted : List ℕ → ℕ → ℕ

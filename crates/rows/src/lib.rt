@@ -3,19 +3,20 @@
 ghost use Prim.Native.Nat.{ℕ, _+_, _-_, _*_, _≤_, _<_};
 ghost use lib.ListN.{length, getD};
 ghost use lib.Ieee.{binary64, mul, nan};
-ghost use Rattle.choice.specs.Cells.{sizeF, Safe, RowOut};
+ghost use Rattle.cells.specs.Sums.{sizeF};
+ghost use Rattle.choice.specs.Cells.{Safe, RowOut};
 ghost use Rattle.fitting.specs.Tables.{Falling, FirstFor};
 ghost use Rattle.rows.specs.Program.{RowSafe, RowBase, OneRow, RowsSoFar};
 ghost use mathlib.Core.Path.{_≡_};
-use choice::cells::at;
-use choice::cells::larger;
-use choice::cells::less_one;
-use choice::cells::smaller;
+use cells::at;
+use cells::larger;
+use cells::less_one;
+use cells::smaller;
+use cells::sums::Units;
+use cells::sums::base;
+use cells::sums::line_size;
 use choice::cost;
 use choice::pick;
-use choice::sums::Units;
-use choice::sums::base;
-use choice::sums::line_size;
 
 // Fills the starts from `lo` up to `hi` of a row: the middle one by its choice, and the two halves by calls of itself, each with the ends
 // that its starts may still need, of those from `from` up to `to`. No line ends past `last`.

@@ -4,18 +4,16 @@ use mathlib.Core.Path.{_≡_, refl, sym, ap, subst, _∙_}
 use mathlib.Core.Bool.{Bool, true, false, not, cond}
 use mathlib.Core.Logic.{_⊎_, inl, inr}
 use mathlib.Core.List.{List, [], _∷_, _++_, map}
-use Prim.Native.Nat.{ℕ, zero, suc, _+_, _-_, _*_, _≤_, _<_, max, min, zero-le, suc-le-suc}
-use native.Mathlib.Nat.{le-refl}
+use Prim.Native.Nat.{ℕ, zero, suc, _+_, _-_, _≤_, _<_, zero-le, suc-le-suc}
 use native.Mathlib.Omega.{arith}
-use lib.Dec.{T, leb, leb→le, le→leb, nleb→lt}
-use lib.ListN.{length, getD, take, drop, replicate, length-map, length-drop, List·getD-map}
+use lib.Dec.{T, leb, leb→le, le→leb}
+use lib.ListN.{length, take, drop, replicate, length-map, length-drop, List·getD-map}
 use lib.Seq.{append-snoc}
 use lib.IntN.{ℤ, pos, negsuc, natAbs, _+ℤ_}
 use Rattle.breaking.specs.Breaking.{Limit, min-content, max-content, definite, fits, lineSize, taken, linesOf, greedy}
 use Rattle.rule.specs.Rule.{floored, Line, Valid, score, Better, Chosen, required, Balanced}
 use Rattle.rule.specs.Natural as nat
 use Rattle.rule.specs.Natural.{natural}
-use Rattle.rule.proofs.DpLaws.{lt-or-ge}
 use Rattle.rule.proofs.Exists.{greedy-same, balanced-exists}
 
 -- ---- sizes

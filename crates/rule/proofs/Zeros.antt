@@ -1,14 +1,12 @@
 -- The zero rule at P3 of document 01, computed: of 70, 0 and 0 in two lines the first may hold 2, since no item would remain for the second line
 -- if it took the third too, and it may not hold 1. Assumes nothing.
-use mathlib.Core.Path.{_≡_, refl}
+use mathlib.Core.Path.{refl}
 use mathlib.Core.Logic.{_⊎_, inl, inr}
-use mathlib.Core.Bool.{not}
 use mathlib.Core.List.{List, [], _∷_}
 use Prim.Native.Nat.{_<_}
 use native.Mathlib.Omega.{arith}
-use lib.Dec.{T}
 use lib.IntN.{ℤ, pos}
-use Rattle.breaking.specs.Breaking.{Limit, definite, fits, lineSize}
+use Rattle.breaking.specs.Breaking.{definite, fits, lineSize}
 use Rattle.rule.specs.Rule.{Line}
 
 abbrev sizes : List ℤ

@@ -9,9 +9,8 @@ use Rattle.grid.specs.Grid.{onGrid, within}
 use Rattle.grid.proofs.Range.{range-test, range-from-0}
 use Rattle.refusal.specs.declared.Kind.{Kind}
 use Rattle.refusal.specs.declared.Kind.the-variants.{Length, Margin, Size, Factor, Worked}
-use Rattle.refusal.specs.Domain.{Number, float, code, gridded, notBelow0, inRange, notFinite, offGrid, outOfRange}
+use Rattle.refusal.specs.Domain.{Number, float, gridded, notBelow0, inRange, notFinite, offGrid, outOfRange}
 use Rattle.refusal.specs.Marks.{mark}
-use Rattle.single.specs.declared.Bounds.{Bounds}
 use Rattle.single.specs.Bounds.{px, boundsOf, fine}
 
 -- ---- the range of a kind

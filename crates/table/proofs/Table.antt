@@ -18,7 +18,7 @@ use Rattle.flexing.specs.declared.Item.{Item}
 use Rattle.flexing.specs.declared.Line.{Line}
 use Rattle.grid.specs.Floats.{gaps, each}
 use Rattle.flexing.specs.Flex.{Cell, Runs, sumFrom, clamp, sumUnits, inflexible, left, limited, share, flexed, violation, freezes, settle, round, after, freeBefore, targets, lineOf, begun, unfrozen}
-use Rattle.flexing.proofs.Falls.{rounds-one}
+use Rattle.flexlaws.proofs.Falls.{rounds-one}
 use Rattle.align.specs.declared.Distribution.{Distribution}
 use Rattle.align.specs.declared.Distribution.the-variants.{Stretch}
 use Rattle.align.specs.declared.ContentAlignment.the-variants.{Spread}

@@ -9,7 +9,7 @@ use lib.ListN.{length, getD, set, drop, replicate, length-replicate, replicate-a
 use lib.Seq.{drop-cons, drop-drop, set-at, take-at, drop-append-add}
 use Rattle.breaking.specs.Steps.{Listed, filled, cleared}
 use Rattle.grid.specs.Floats.{each}
-use Rattle.rounds.proofs.Each.{length-each}
+use Rattle.itemtable.proofs.Each.{length-each}
 use Rattle.wrapping.specs.Wrapping.{oneLine}
 
 -- ---- one line

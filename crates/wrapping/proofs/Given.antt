@@ -20,9 +20,9 @@ use Rattle.flexing.specs.declared.Item.{Item}
 use Rattle.flexing.specs.Flex.{outer, hypothetical, outerUnits, outerSum}
 use Rattle.grid.specs.Floats.{each}
 use Rattle.flexing.specs.Accepted.{Measured}
-use Rattle.rounds.specs.Cells.{itemIn, itemsIn, Tabled}
-use Rattle.rounds.proofs.Each.{length-each, map-each, each-ext, outer-none, outer-snoc}
-use Rattle.flexing.proofs.Units.{outer-at}
+use Rattle.itemtable.specs.Table.{itemIn, itemsIn, Tabled}
+use Rattle.itemtable.proofs.Each.{length-each, map-each, each-ext, outer-none, outer-snoc}
+use Rattle.flexlaws.proofs.Units.{outer-at}
 use Rattle.wrapping.specs.Outer.{outerSizes}
 
 -- ---- sums

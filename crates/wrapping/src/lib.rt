@@ -6,7 +6,7 @@ ghost use Prim.Native.Nat.{_≤_};
 ghost use lib.ListN.{length, drop};
 ghost use lib.Ieee.{binary64, ofBits};
 ghost use Rattle.breaking.specs.Steps.{Breakable, Listed, filled};
-ghost use Rattle.rounds.specs.Cells.{Wide, itemsIn};
+ghost use Rattle.itemtable.specs.Table.{Wide, itemsIn};
 ghost use Rattle.wrapping.specs.Wrapping.{oneLine, lent, Room, Wrapped};
 ghost use Rattle.wrapping.specs.Outer.{outerSizes};
 ghost use Rattle.wrapping.specs.declared.Mode.the-variants.{Balanced};
@@ -16,7 +16,7 @@ use breaking::greedy_checked;
 use breaklimit::AvailableSpace;
 use flexing::sizes::hypothetical_size;
 use flexing::sizes::outer_size;
-use rounds::table::pick;
+use itemtable::pick;
 
 // Whether a container's items make one line (nowrap), greedy lines (wrap) or balanced lines (balance).
 pub enum Mode {

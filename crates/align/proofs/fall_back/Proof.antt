@@ -1,5 +1,5 @@
 -- `align::fall_back` meets its contract: each arm of the match is a clause of the definition. Assumes nothing.
-use mathlib.Core.Path.{_≡_, sym, ap, _∙_}
+use mathlib.Core.Path.{sym, ap, _∙_}
 use borrow.Author.Tests.{le-leb, lt-leb}
 use Rattle.align.specs.Align.{fallback}
 use Rattle.align.proofs.Fallback.{falls-short, falls-alone, stays}

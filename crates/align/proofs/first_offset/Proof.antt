@@ -1,7 +1,7 @@
 -- `align::first_offset` meets its contract: each arm of the match is a clause of the definition. Assumes nothing.
-use Prim.Native.Nat.{_+_, _-_}
+use Prim.Native.Nat.{_+_}
 use native.Mathlib.Omega.{arith}
-use Rattle.align.proofs.Counts.{few}
+use Rattle.grid.proofs.Counts.{few}
 use Rattle.align.specs.Align.{firstOffset}
 use borrow.Author.Needs.{needs}
 use Rattle.align.proofs.first_offset.Statement.{statement}

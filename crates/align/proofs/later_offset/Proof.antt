@@ -1,7 +1,7 @@
 -- `align::later_offset` meets its contract: each arm of the match is a clause of the definition. Assumes nothing.
 use Prim.Native.Nat.{_+_, _-_}
 use native.Mathlib.Omega.{arith}
-use Rattle.align.proofs.Counts.{few}
+use Rattle.grid.proofs.Counts.{few}
 use Rattle.align.specs.Align.{laterOffset}
 use borrow.Author.Needs.{needs}
 use Rattle.align.proofs.later_offset.Statement.{statement}

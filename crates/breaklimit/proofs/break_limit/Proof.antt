@@ -1,5 +1,5 @@
 -- `break_limit` meets its contract: with no codes before them the checks are the definition's, and past them the limit is. Assumes nothing.
-use mathlib.Core.Path.{_≡_, refl, sym, ap, _∙_}
+use mathlib.Core.Path.{_≡_, sym, ap, _∙_}
 use mathlib.Core.List.{[]}
 use Rattle.refusal.specs.declared.Verdict.{Verdict}
 use Rattle.refusal.specs.Marks.{leastOf}

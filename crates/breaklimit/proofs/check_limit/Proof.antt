@@ -1,5 +1,5 @@
 -- `check_limit` meets its contract: the least mark says what the checks say. Assumes nothing.
-use mathlib.Core.Path.{_≡_, ap, ap₂, _∙_}
+use mathlib.Core.Path.{ap, ap₂, _∙_}
 use Prim.Native.Nat.{min}
 use Rattle.refusal.specs.Marks.{judged}
 use Rattle.breaklimit.proofs.Checked.{query-checked}

@@ -2,7 +2,7 @@
 use mathlib.Core.Path.{_≡_, sym, ap, _∙_}
 use lib.ListN.{length, take}
 use denote.Ref.{now}
-use Rattle.rounds.specs.Cells.{itemsIn}
+use Rattle.itemtable.specs.Table.{itemsIn}
 use Rattle.wrapping.specs.Wrapping as wrapping
 use Rattle.wrapping.specs.Outer.{outerSizes}
 use Rattle.wrapping.proofs.Given.{sizes-long, sizes-lent}
@@ -10,13 +10,6 @@ use Rattle.breakstage.proofs.BreakLaws.{breaks-as, broken-as}
 use borrow.Author.Needs.{needs}
 use Rattle.breakstage.proofs.break_items.Statement.{statement}
 use Rattle.breakstage.proofs.break_items.Tie as tie
-use Rattle.breakstage.proofs.break_items.Reads as reads
-use Rattle.breakstage.proofs.break_items.Lts as lts
-use Rattle.grid.proofs.clean.Reads as clean-reads
-use Rattle.breakstage.proofs.mode_of.Reads as mode-of-reads
-use Rattle.breaklimit.proofs.space_of.Reads as space-of-reads
-use Rattle.wrapping.proofs.break_lines.Reads as break-lines-reads
-use Rattle.wrapping.proofs.outer_sizes.Reads as outer-sizes-reads
 
 -- the sizes, as the frame holds them
 sizes : (c : tie.After-outer-sizes) → let a = c .before .before .before .before .before .before .args in take (a .n) (c .outer-sizes .last .1 .1 .0) ≡ outerSizes (itemsIn (now (a .table)) 0 (a .n))

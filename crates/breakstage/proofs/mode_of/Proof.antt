@@ -2,8 +2,6 @@
 use borrow.Author.Tests.{eq-eqb, ne-eqb, lt-ltb, le-ltb}
 use Rattle.breakstage.proofs.mode_of.Statement.{statement}
 use Rattle.breakstage.proofs.mode_of.Tie as tie
-use Rattle.breakstage.proofs.mode_of.Reads as reads
-use Rattle.breakstage.proofs.mode_of.Lts as lts
 
 returns : tie.Need-returns
 returns c = simp (eq-eqb _ _ (c .if1 .taken))

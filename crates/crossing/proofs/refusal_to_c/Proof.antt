@@ -1,5 +1,5 @@
 -- `crossing::refusal_to_c` meets its contract, by the six refusals. Assumes nothing.
-use mathlib.Core.Path.{_≡_, sym, ap, _∙_}
+use mathlib.Core.Path.{sym, ap, _∙_}
 use Rattle.refusal.specs.declared.Refusal.{Refusal}
 use Rattle.refusal.specs.Domain.{refusalOf}
 use Rattle.crossing.specs.Crossing.{crossed}

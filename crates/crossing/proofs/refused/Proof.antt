@@ -1,5 +1,5 @@
 -- `crossing::refused` meets its contract, by the two cases of a place. Assumes nothing.
-use mathlib.Core.Path.{_≡_, sym, ap}
+use mathlib.Core.Path.{sym, ap}
 use Rattle.refusal.specs.declared.Place.{Place}
 use Rattle.refusal.specs.Domain.{refusedAs, whereOf}
 use Rattle.crossing.specs.Crossing.{crossed}

@@ -1,5 +1,5 @@
 -- `crossing::to_c` meets its contract, by the two cases of an answer. Assumes nothing.
-use mathlib.Core.Path.{_≡_, sym, ap, _∙_}
+use mathlib.Core.Path.{sym, ap, _∙_}
 use Rattle.crossing.specs.Crossing.{cAnswer}
 use borrow.Author.Needs.{needs}
 use Rattle.crossing.proofs.to_c.Statement.{statement}

@@ -8,9 +8,6 @@ use Rattle.linesize.specs.CrossSize.{Items, items}
 use Rattle.crosslines.proofs.Placing.{Placing, placing-none, placing-next, placing-all, Turn, turn-of, line-sized, lent-sorted, lent-room}
 use Rattle.crosslines.proofs.across_by_line.Statement.{statement}
 use Rattle.crosslines.proofs.across_by_line.Tie as tie
-use Rattle.crosslines.proofs.across_by_line.Reads as reads
-use Rattle.crosslines.proofs.across_by_line.Lts as lts
-use Rattle.crossaxis.proofs.cross_axis.place_items.Reads as place-items-reads
 
 abbrev Inv-loop : tie.InvT-loop
 Inv-loop reversed counts line-sizes measured minimum maximum capped edges start end auto-start auto-end alignment auto-size sizes₀ used-start₀ used-end₀ offsets₀ from₀ j₀ sizes used-start used-end offsets from j =

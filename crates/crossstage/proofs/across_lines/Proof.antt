@@ -10,13 +10,6 @@ use Rattle.crossstage.proofs.CrossLaws.{across-ready-as, across-as}
 use borrow.Author.Needs.{needs}
 use Rattle.crossstage.proofs.across_lines.Statement.{statement}
 use Rattle.crossstage.proofs.across_lines.Tie as tie
-use Rattle.crossstage.proofs.across_lines.Reads as reads
-use Rattle.crossstage.proofs.across_lines.Lts as lts
-use Rattle.crosslines.proofs.across_by_line.Reads as across-by-line-reads
-use Rattle.container.proofs.columns.code_column.Reads as code-column-reads
-use Rattle.container.proofs.columns.column.Reads as column-reads
-use Rattle.linesize.proofs.container.is_reversed.Reads as is-reversed-reads
-use Rattle.linesize.proofs.container.wrap_of.Reads as wrap-of-reads
 
 -- where all of the columns are taken
 abbrev start : tie.After-code-column5 → tie.Start

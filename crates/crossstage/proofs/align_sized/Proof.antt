@@ -9,12 +9,6 @@ use Rattle.crossstage.proofs.CrossLaws.{aligned-as, asked-are, front-lo
 use borrow.Author.Needs.{needs}
 use Rattle.crossstage.proofs.align_sized.Statement.{statement}
 use Rattle.crossstage.proofs.align_sized.Tie as tie
-use Rattle.crossstage.proofs.align_sized.Reads as reads
-use Rattle.crossstage.proofs.align_sized.Lts as lts
-use Rattle.align.proofs.content_of.Reads as content-of-reads
-use Rattle.crossaxis.proofs.lines.align_lines.Reads as align-lines-reads
-use Rattle.crossstage.proofs.cross_axis.Reads as cross-axis-reads
-use Rattle.crossstage.proofs.size_lines.Reads as size-lines-reads
 
 slice-aggregate-size-lines : tie.Need-slice-aggregate-size-lines
 slice-aggregate-size-lines c = search needs

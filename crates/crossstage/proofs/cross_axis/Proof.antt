@@ -4,10 +4,6 @@ use Rattle.crosschecks.specs.Numbers.{crossOf}
 use borrow.Author.Needs.{needs}
 use Rattle.crossstage.proofs.cross_axis.Statement.{statement}
 use Rattle.crossstage.proofs.cross_axis.Tie as tie
-use Rattle.crossstage.proofs.cross_axis.Reads as reads
-use Rattle.crossstage.proofs.cross_axis.Lts as lts
-use Rattle.crosschecks.proofs.numbers.cross_of.Reads as cross-of-reads
-use Rattle.passchecks.proofs.cross_numbers.Reads as cross-numbers-reads
 
 cross-numbers-requires : tie.Need-cross-numbers-requires
 cross-numbers-requires c κs = search needs

@@ -7,10 +7,6 @@ use Rattle.crossstage.proofs.CrossLaws.{frame, front-long, inside-of, w
 use borrow.Author.Needs.{needs}
 use Rattle.crossstage.proofs.items_across.Statement.{statement}
 use Rattle.crossstage.proofs.items_across.Tie as tie
-use Rattle.crossstage.proofs.items_across.Reads as reads
-use Rattle.crossstage.proofs.items_across.Lts as lts
-use Rattle.container.proofs.columns.store_four.Reads as store-four-reads
-use Rattle.crossstage.proofs.across_lines.Reads as across-lines-reads
 
 array-borrow-prefix-sizes : tie.Need-array-borrow-prefix-sizes
 array-borrow-prefix-sizes c = search needs

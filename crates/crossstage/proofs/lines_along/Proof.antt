@@ -8,10 +8,6 @@ use Rattle.crossstage.proofs.CrossLaws.{frame, front-long, inside-of, w
 use borrow.Author.Needs.{needs}
 use Rattle.crossstage.proofs.lines_along.Statement.{statement}
 use Rattle.crossstage.proofs.lines_along.Tie as tie
-use Rattle.crossstage.proofs.lines_along.Reads as reads
-use Rattle.crossstage.proofs.lines_along.Lts as lts
-use Rattle.container.proofs.columns.store_column.Reads as store-column-reads
-use Rattle.crossstage.proofs.align_sized.Reads as align-sized-reads
 
 array-borrow-prefix-sizes : tie.Need-array-borrow-prefix-sizes
 array-borrow-prefix-sizes c = search needs

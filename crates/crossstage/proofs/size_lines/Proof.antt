@@ -9,12 +9,6 @@ use Rattle.crossstage.proofs.CrossLaws.{sizes-ready-as, sizes-as}
 use borrow.Author.Needs.{needs}
 use Rattle.crossstage.proofs.size_lines.Statement.{statement}
 use Rattle.crossstage.proofs.size_lines.Tie as tie
-use Rattle.crossstage.proofs.size_lines.Reads as reads
-use Rattle.crossstage.proofs.size_lines.Lts as lts
-use Rattle.sizelines.proofs.cross_sizes.Reads as cross-sizes-reads
-use Rattle.container.proofs.columns.code_column.Reads as code-column-reads
-use Rattle.container.proofs.columns.column.Reads as column-reads
-use Rattle.crossstage.proofs.cross_axis.Reads as cross-axis-reads
 
 -- where all of the columns are taken
 abbrev start : tie.After-code-column3 → tie.Start

@@ -3,9 +3,6 @@ use native.Mathlib.Omega.{arith}
 use borrow.Author.Needs.{needs}
 use Rattle.flexcalls.proofs.flex_checked.Statement.{statement}
 use Rattle.flexcalls.proofs.flex_checked.Tie as tie
-use Rattle.flexcalls.proofs.flex_checked.Reads as reads
-use Rattle.flexcalls.proofs.flex_checked.Lts as lts
-use Rattle.flexcalls.proofs.flex_in.Reads as flex-in-reads
 
 slice-aggregate-flex-in : tie.Need-slice-aggregate-flex-in
 slice-aggregate-flex-in c = search needs

@@ -7,15 +7,10 @@ use Rattle.grid.specs.Grid.{Length}
 use Rattle.flexing.specs.Items.{Lists, lists}
 use Rattle.flexchecks.proofs.Accept.{inner-length, gap-length, measured-of}
 use Rattle.flexcalls.proofs.OneLine.{answered-as}
-use Rattle.rounds.proofs.Columns.{tabled-of, items-are}
+use Rattle.itemtable.proofs.Columns.{tabled-of, items-are}
 use borrow.Author.Needs.{needs}
 use Rattle.flexcalls.proofs.flex_in.Statement.{statement}
 use Rattle.flexcalls.proofs.flex_in.Tie as tie
-use Rattle.flexcalls.proofs.flex_in.Reads as reads
-use Rattle.flexcalls.proofs.flex_in.Lts as lts
-use Rattle.flexcalls.proofs.flex_read.Reads as flex-read-reads
-use Rattle.rounds.proofs.table.read_items.Reads as read-items-reads
-use Rattle.grid.proofs.clean.Reads as clean-reads
 
 -- the lists that the function is called with
 abbrev given : tie.Start → Lists

@@ -10,10 +10,6 @@ use Rattle.flexcalls.proofs.OneLine.{checked-of, refused-so, passed-so}
 use borrow.Author.Needs.{needs}
 use Rattle.flexcalls.proofs.flex_line.Statement.{statement}
 use Rattle.flexcalls.proofs.flex_line.Tie as tie
-use Rattle.flexcalls.proofs.flex_line.Reads as reads
-use Rattle.flexcalls.proofs.flex_line.Lts as lts
-use Rattle.flexchecks.proofs.check_line.Reads as check-line-reads
-use Rattle.flexcalls.proofs.flex_checked.Reads as flex-checked-reads
 
 -- the lists that the function is called with
 abbrev given : tie.Start → Lists

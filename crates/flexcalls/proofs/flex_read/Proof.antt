@@ -10,16 +10,11 @@ use Rattle.refusal.proofs.Checks.{summed-passed}
 use Rattle.flexing.specs.declared.Item.{Item}
 use Rattle.flexing.specs.Flex.{outerSum}
 use Rattle.flexing.specs.Accepted.{Measured}
-use Rattle.rounds.specs.Cells.{itemIn, itemsIn}
-use Rattle.rounds.proofs.Columns.{every-each}
+use Rattle.itemtable.specs.Table.{itemIn, itemsIn}
+use Rattle.itemtable.proofs.Columns.{every-each}
 use borrow.Author.Needs.{needs}
 use Rattle.flexcalls.proofs.flex_read.Statement.{statement}
 use Rattle.flexcalls.proofs.flex_read.Tie as tie
-use Rattle.flexcalls.proofs.flex_read.Reads as reads
-use Rattle.flexcalls.proofs.flex_read.Lts as lts
-use Rattle.rounds.proofs.flex.flex_items.Reads as flex-items-reads
-use Rattle.rounds.proofs.sum.outer_sum.Reads as outer-sum-reads
-use Rattle.refusal.proofs.check_sum.Reads as check-sum-reads
 
 -- the items that the function is called with
 abbrev items : tie.Start → List Item

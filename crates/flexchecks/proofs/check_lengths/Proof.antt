@@ -7,12 +7,6 @@ use Rattle.refusal.specs.Domain.{shape}
 use borrow.Author.Needs.{needs}
 use Rattle.flexchecks.proofs.check_lengths.Statement.{statement}
 use Rattle.flexchecks.proofs.check_lengths.Tie as tie
-use Rattle.flexchecks.proofs.check_lengths.Reads as reads
-use Rattle.flexchecks.proofs.check_lengths.Lts as lts
-use Rattle.refusal.proofs.shapes.has_room.Reads as has-room-reads
-use Rattle.refusal.proofs.shapes.is_alike.Reads as is-alike-reads
-use Rattle.refusal.proofs.shapes.longer.Reads as longer-reads
-use Rattle.refusal.proofs.check_shape.Reads as check-shape-reads
 
 longer-requires : tie.Need-longer-requires
 longer-requires c κs = search needs

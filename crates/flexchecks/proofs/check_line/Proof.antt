@@ -10,11 +10,6 @@ use Rattle.flexchecks.proofs.Accept.{even-of}
 use borrow.Author.Needs.{needs}
 use Rattle.flexchecks.proofs.check_line.Statement.{statement}
 use Rattle.flexchecks.proofs.check_line.Tie as tie
-use Rattle.flexchecks.proofs.check_line.Reads as reads
-use Rattle.flexchecks.proofs.check_line.Lts as lts
-use Rattle.flexchecks.proofs.check_lengths.Reads as check-lengths-reads
-use Rattle.flexchecks.proofs.mark_numbers.Reads as mark-numbers-reads
-use Rattle.refusal.proofs.judge.Reads as judge-reads
 
 -- the lists that the function is called with
 abbrev given : tie.Start → Lists

@@ -7,12 +7,6 @@ use Rattle.flexchecks.proofs.Marked.{container-is, input-is}
 use borrow.Author.Needs.{needs}
 use Rattle.flexchecks.proofs.mark_numbers.Statement.{statement}
 use Rattle.flexchecks.proofs.mark_numbers.Tie as tie
-use Rattle.flexchecks.proofs.mark_numbers.Reads as reads
-use Rattle.flexchecks.proofs.mark_numbers.Lts as lts
-use Rattle.marking.proofs.lists.mark_beside.Reads as mark-beside-reads
-use Rattle.flexchecks.proofs.mark_plain.Reads as mark-plain-reads
-use Rattle.refusal.proofs.least.Reads as least-reads
-use Rattle.single.proofs.mark_float.Reads as mark-float-reads
 
 -- the lists that the function is called with
 abbrev given : tie.Start → Lists

@@ -10,11 +10,6 @@ use Rattle.flexchecks.proofs.Marked.{single, several-none, several-more
 use borrow.Author.Needs.{needs}
 use Rattle.flexchecks.proofs.mark_plain.Statement.{statement}
 use Rattle.flexchecks.proofs.mark_plain.Tie as tie
-use Rattle.flexchecks.proofs.mark_plain.Reads as reads
-use Rattle.flexchecks.proofs.mark_plain.Lts as lts
-use Rattle.refusal.proofs.least.Reads as least-reads
-use Rattle.marking.proofs.mark_floats.Reads as mark-floats-reads
-use Rattle.refusal.proofs.no_mark.Reads as no-mark-reads
 
 mark-floats-requires : tie.Need-mark-floats-requires
 mark-floats-requires c κs = search needs

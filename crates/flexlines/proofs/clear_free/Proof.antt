@@ -8,9 +8,6 @@ use denote.Ref.{now}
 use Rattle.flexlines.proofs.Going.{Clearing, clear-none, clear-next, clear-all}
 use Rattle.flexlines.proofs.clear_free.Statement.{statement}
 use Rattle.flexlines.proofs.clear_free.Tie as tie
-use Rattle.flexlines.proofs.clear_free.Reads as reads
-use Rattle.flexlines.proofs.clear_free.Lts as lts
-use Rattle.flexlines.proofs.store_free.Reads as store-free-reads
 
 abbrev Inv-loop : tie.InvT-loop
 Inv-loop free₀ from n j₀ free j = Clearing (pos 0) from n free₀ free j

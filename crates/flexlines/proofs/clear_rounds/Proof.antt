@@ -5,8 +5,6 @@ use denote.Ref.{now}
 use Rattle.flexlines.proofs.Going.{Clearing, clear-none, clear-next, clear-all}
 use Rattle.flexlines.proofs.clear_rounds.Statement.{statement}
 use Rattle.flexlines.proofs.clear_rounds.Tie as tie
-use Rattle.flexlines.proofs.clear_rounds.Reads as reads
-use Rattle.flexlines.proofs.clear_rounds.Lts as lts
 
 abbrev Inv-loop : tie.InvT-loop
 Inv-loop rounds₀ from n j₀ rounds j = Clearing 0 from n rounds₀ rounds j

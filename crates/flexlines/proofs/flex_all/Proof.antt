@@ -3,16 +3,11 @@ use Prim.Native.Nat.{_≤_}
 use native.Mathlib.Omega.{arith}
 use lib.ListN.{length}
 use denote.Ref.{now}
-use Rattle.rounds.specs.Cells.{itemIn}
+use Rattle.itemtable.specs.Table.{itemIn}
 use Rattle.flexlines.proofs.Going.{lines-within, lines-flexed}
 use borrow.Author.Needs.{needs}
 use Rattle.flexlines.proofs.flex_all.Statement.{statement}
 use Rattle.flexlines.proofs.flex_all.Tie as tie
-use Rattle.flexlines.proofs.flex_all.Reads as reads
-use Rattle.flexlines.proofs.flex_all.Lts as lts
-use Rattle.flexlines.proofs.clear_free.Reads as clear-free-reads
-use Rattle.flexlines.proofs.clear_rounds.Reads as clear-rounds-reads
-use Rattle.flexlines.proofs.flex_each.Reads as flex-each-reads
 
 -- no more lines than items
 within : (s : tie.Start) → length (now (s .args .counts)) ≤ s .args .n

@@ -8,16 +8,12 @@ use lib.IntN.{ℤ}
 use denote.Ref.{now}
 use borrow.Rule.Slice.PartMut.{putMid, mid-len}
 use Rattle.flexing.specs.Accepted.{Accepted}
-use Rattle.rounds.specs.Cells.{itemIn, itemsIn}
-use Rattle.rounds.proofs.Each.{length-each}
-use Rattle.flexing.proofs.Units.{free-bits}
+use Rattle.itemtable.specs.Table.{itemIn, itemsIn}
+use Rattle.itemtable.proofs.Each.{length-each}
+use Rattle.flexlaws.proofs.Units.{free-bits}
 use Rattle.flexlines.proofs.Going.{Going, going-none, going-next, going-all, accepted-line, line-inside, Turn, turn-of}
 use Rattle.flexlines.proofs.flex_each.Statement.{statement}
 use Rattle.flexlines.proofs.flex_each.Tie as tie
-use Rattle.flexlines.proofs.flex_each.Reads as reads
-use Rattle.flexlines.proofs.flex_each.Lts as lts
-use Rattle.rounds.proofs.flex.flex_items.Reads as flex-items-reads
-use Rattle.flexlines.proofs.store_free.Reads as store-free-reads
 
 abbrev Inv-loop : tie.InvT-loop
 Inv-loop table n inner gap counts targets₀ free₀ rounds₀ sum₀ start₀ line₀ targets free rounds sum start line = Going inner gap (itemIn table) counts targets₀ free₀ rounds₀ targets free rounds sum start line

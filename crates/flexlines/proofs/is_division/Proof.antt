@@ -7,11 +7,6 @@ use denote.Ref.{now}
 use Rattle.flexlines.proofs.Counting.{Counting, counting-none, counting-next, counting-all}
 use Rattle.flexlines.proofs.is_division.Statement.{statement}
 use Rattle.flexlines.proofs.is_division.Tie as tie
-use Rattle.flexlines.proofs.is_division.Reads as reads
-use Rattle.flexlines.proofs.is_division.Lts as lts
-use Rattle.refusal.proofs.shapes.has_room.Reads as has-room-reads
-use Rattle.refusal.proofs.shapes.is_alike.Reads as is-alike-reads
-use Rattle.flexlines.proofs.wide.Reads as wide-reads
 
 abbrev Inv-loop : tie.InvT-loop
 Inv-loop counts n positive₀ sum₀ j₀ positive sum j = Counting counts positive sum j

@@ -14,11 +14,6 @@ use Rattle.flexmany.proofs.ManyLines.{checked-lines, lines-refused, lin
 use borrow.Author.Needs.{needs}
 use Rattle.flexmany.proofs.flex_lines.Statement.{statement}
 use Rattle.flexmany.proofs.flex_lines.Tie as tie
-use Rattle.flexmany.proofs.flex_lines.Reads as reads
-use Rattle.flexmany.proofs.flex_lines.Lts as lts
-use Rattle.flexchecks.proofs.lines.check_lines.Reads as check-lines-reads
-use Rattle.flexmany.proofs.flex_lines_checked.Reads as flex-lines-checked-reads
-use Rattle.flexmany.proofs.shorter.Reads as shorter-reads
 
 abbrev start-of : tie.After-check-lines → tie.Start
 start-of c = c .before .before .before .before .before .before .before .before .before .before .before .before .before .before .before .before .before

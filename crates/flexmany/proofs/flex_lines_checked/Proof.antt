@@ -3,9 +3,6 @@ use native.Mathlib.Omega.{arith}
 use borrow.Author.Needs.{needs}
 use Rattle.flexmany.proofs.flex_lines_checked.Statement.{statement}
 use Rattle.flexmany.proofs.flex_lines_checked.Tie as tie
-use Rattle.flexmany.proofs.flex_lines_checked.Reads as reads
-use Rattle.flexmany.proofs.flex_lines_checked.Lts as lts
-use Rattle.flexmany.proofs.flex_lines_in.Reads as flex-lines-in-reads
 
 slice-aggregate-flex-lines-in : tie.Need-slice-aggregate-flex-lines-in
 slice-aggregate-flex-lines-in c = search needs

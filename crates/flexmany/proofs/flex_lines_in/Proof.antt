@@ -7,11 +7,6 @@ use Rattle.flexmany.proofs.ManyLines.{divided-of, answered-lines}
 use borrow.Author.Needs.{needs}
 use Rattle.flexmany.proofs.flex_lines_in.Statement.{statement}
 use Rattle.flexmany.proofs.flex_lines_in.Tie as tie
-use Rattle.flexmany.proofs.flex_lines_in.Reads as reads
-use Rattle.flexmany.proofs.flex_lines_in.Lts as lts
-use Rattle.flexmany.proofs.flex_lines_read.Reads as flex-lines-read-reads
-use Rattle.rounds.proofs.table.read_items.Reads as read-items-reads
-use Rattle.grid.proofs.clean.Reads as clean-reads
 
 -- the lists that the function is called with
 abbrev given : tie.Start → Lists

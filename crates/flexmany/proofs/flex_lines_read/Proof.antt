@@ -5,16 +5,11 @@ use denote.Ref.{now}
 use Rattle.refusal.specs.Domain.{summed}
 use Rattle.refusal.proofs.Checks.{summed-passed}
 use Rattle.flexing.specs.Flex.{outerSum}
-use Rattle.rounds.specs.Cells.{itemsIn}
+use Rattle.itemtable.specs.Table.{itemsIn}
 use Rattle.flexlines.proofs.Going.{counts-few}
 use borrow.Author.Needs.{needs}
 use Rattle.flexmany.proofs.flex_lines_read.Statement.{statement}
 use Rattle.flexmany.proofs.flex_lines_read.Tie as tie
-use Rattle.flexmany.proofs.flex_lines_read.Reads as reads
-use Rattle.flexmany.proofs.flex_lines_read.Lts as lts
-use Rattle.flexlines.proofs.flex_all.Reads as flex-all-reads
-use Rattle.rounds.proofs.sum.outer_sum.Reads as outer-sum-reads
-use Rattle.refusal.proofs.check_sum.Reads as check-sum-reads
 
 outer-sum-requires : tie.Need-outer-sum-requires
 outer-sum-requires c κs = search needs

@@ -2,12 +2,12 @@
 use mathlib.Core.Path.{_≡_, sym, ap, _∙_}
 use mathlib.Core.Bool.{Bool, true, false, cond}
 use lib.Ieee.{Float, lt, neg}
-use Rattle.grid.specs.Grid.{none}
+use Rattle.grid.specs.Grid.{zeroPx}
 use Rattle.grid.proofs.Meaning.{none-bits}
 use Rattle.grid.proofs.magnitude.Statement.{statement}
 use Rattle.grid.proofs.magnitude.Tie as tie
 
-is : (x : Float) (b : Bool) → lt x none ≡ b → cond b (neg x) x ≡ cond (lt x none) (neg x) x
+is : (x : Float) (b : Bool) → lt x zeroPx ≡ b → cond b (neg x) x ≡ cond (lt x zeroPx) (neg x) x
 is x b e = ap (λ (d : Bool). cond d (neg x) x) (sym e)
 
 returns : tie.Need-returns

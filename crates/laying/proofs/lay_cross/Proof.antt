@@ -12,10 +12,6 @@ use Rattle.laying.proofs.LaidLaws.{first-column, first-long}
 use borrow.Author.Needs.{needs}
 use Rattle.laying.proofs.lay_cross.Statement.{statement}
 use Rattle.laying.proofs.lay_cross.Tie as tie
-use Rattle.laying.proofs.lay_cross.Reads as reads
-use Rattle.laying.proofs.lay_cross.Lts as lts
-use Rattle.crossstage.proofs.items_across.Reads as items-across-reads
-use Rattle.crossstage.proofs.lines_along.Reads as lines-along-reads
 
 lines-along-requires : tie.Need-lines-along-requires
 lines-along-requires c κs = search needs

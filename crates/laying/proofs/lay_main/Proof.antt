@@ -7,13 +7,8 @@ use lib.ListN.{length}
 use denote.Ref.{now}
 use Rattle.breakstage.proofs.BreakLaws.{lines-long, lines-few}
 use Rattle.laying.proofs.LaidLaws.{main-ready}
-use borrow.Author.Needs.{needs}
 use Rattle.laying.proofs.lay_main.Statement.{statement}
 use Rattle.laying.proofs.lay_main.Tie as tie
-use Rattle.laying.proofs.lay_main.Reads as reads
-use Rattle.laying.proofs.lay_main.Lts as lts
-use Rattle.mainstage.proofs.place_main_axis.Reads as place-main-axis-reads
-use Rattle.breakstage.proofs.break_items.Reads as break-items-reads
 
 break-items-requires : tie.Need-break-items-requires
 break-items-requires c κs = c .before .before .before .before .before .before .before .before .before .before .before .pre .breaks

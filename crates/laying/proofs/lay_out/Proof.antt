@@ -6,13 +6,8 @@ use lib.ListN.{length}
 use denote.Ref.{now}
 use Rattle.breakstage.proofs.BreakLaws.{lines-long, lines-few}
 use Rattle.laying.proofs.LaidLaws.{items-in, cross-asked, laid-of}
-use borrow.Author.Needs.{needs}
 use Rattle.laying.proofs.lay_out.Statement.{statement}
 use Rattle.laying.proofs.lay_out.Tie as tie
-use Rattle.laying.proofs.lay_out.Reads as reads
-use Rattle.laying.proofs.lay_out.Lts as lts
-use Rattle.laying.proofs.lay_cross.Reads as lay-cross-reads
-use Rattle.laying.proofs.lay_main.Reads as lay-main-reads
 
 lay-main-requires : tie.Need-lay-main-requires
 lay-main-requires c κs = c .before .before .before .before .before .before .before .before .before .before .before .before .before .before .before .pre .main

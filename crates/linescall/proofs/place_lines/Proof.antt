@@ -1,5 +1,5 @@
 -- `linescall::place_lines` meets its contract: the checks refuse, or the lines are placed. Assumes nothing.
-use mathlib.Core.Path.{_≡_, sym, _∙_}
+use mathlib.Core.Path.{sym, _∙_}
 use denote.Ref.{now}
 use Rattle.linescall.proofs.LinesCalled.{lines-room, lines-shape-refused, lines-numbers-refused, lines-placed}
 use borrow.Author.Needs.{needs}

@@ -7,9 +7,6 @@ use Rattle.mainaxis.specs.MainAxis.{Line, line}
 use Rattle.mainlines.proofs.Spacing.{Spacing, spacing-none, spacing-next, spacing-all, Turn, turn-of, Lent, lent}
 use Rattle.mainlines.proofs.main_by_line.Statement.{statement}
 use Rattle.mainlines.proofs.main_by_line.Tie as tie
-use Rattle.mainlines.proofs.main_by_line.Reads as reads
-use Rattle.mainlines.proofs.main_by_line.Lts as lts
-use Rattle.mainaxis.proofs.main_axis.distribute_remaining_free_space.Reads as distribute-remaining-free-space-reads
 
 abbrev Inv-loop : tie.InvT-loop
 Inv-loop inner gap justify reversed counts targets start end auto-start auto-end offsets₀ used-start₀ used-end₀ from₀ j₀ offsets used-start used-end from j =

@@ -2,8 +2,6 @@
 use borrow.Author.Tests.{eq-eqb, ne-eqb}
 use Rattle.mainstage.proofs.is_reversed.Statement.{statement}
 use Rattle.mainstage.proofs.is_reversed.Tie as tie
-use Rattle.mainstage.proofs.is_reversed.Reads as reads
-use Rattle.mainstage.proofs.is_reversed.Lts as lts
 
 returns : tie.Need-returns
 returns c = simp (eq-eqb _ _ (c .if1 .taken))

@@ -6,10 +6,6 @@ use borrow.Author.Needs.{needs}
 use Rattle.mainstage.proofs.StageLaws.{targets-long, offsets-long, starts-long, ends-long, stage-of, first-cells, first-long, first-inside, four-inside}
 use Rattle.mainstage.proofs.place_by_way.Statement.{statement}
 use Rattle.mainstage.proofs.place_by_way.Tie as tie
-use Rattle.mainstage.proofs.place_by_way.Reads as reads
-use Rattle.mainstage.proofs.place_by_way.Lts as lts
-use Rattle.container.proofs.columns.store_four.Reads as store-four-reads
-use Rattle.mainstage.proofs.run_main.Reads as run-main-reads
 
 slice-relend-prefix-run-main : tie.Need-slice-relend-prefix-run-main
 slice-relend-prefix-run-main c = search needs

@@ -2,9 +2,6 @@
 use borrow.Author.Needs.{needs}
 use Rattle.mainstage.proofs.place_main_axis.Statement.{statement}
 use Rattle.mainstage.proofs.place_main_axis.Tie as tie
-use Rattle.mainstage.proofs.place_main_axis.Reads as reads
-use Rattle.mainstage.proofs.place_main_axis.Lts as lts
-use Rattle.mainstage.proofs.place_by_way.Reads as place-by-way-reads
 
 slice-aggregate-place-by-way : tie.Need-slice-aggregate-place-by-way
 slice-aggregate-place-by-way c = search needs

@@ -6,15 +6,6 @@ use Rattle.passchecks.proofs.Taken.{number-inside, code-inside}
 use Rattle.mainstage.proofs.StageLaws.{flex-asked, flexed-of, main-asked, spaced-of}
 use Rattle.mainstage.proofs.run_main.Statement.{statement}
 use Rattle.mainstage.proofs.run_main.Tie as tie
-use Rattle.mainstage.proofs.run_main.Reads as reads
-use Rattle.mainstage.proofs.run_main.Lts as lts
-use Rattle.align.proofs.content_of.Reads as content-of-reads
-use Rattle.mainlines.proofs.main_by_line.Reads as main-by-line-reads
-use Rattle.container.proofs.columns.code_column.Reads as code-column-reads
-use Rattle.container.proofs.columns.column.Reads as column-reads
-use Rattle.flexlines.proofs.flex_all.Reads as flex-all-reads
-use Rattle.grid.proofs.clean.Reads as clean-reads
-use Rattle.mainstage.proofs.is_reversed.Reads as is-reversed-reads
 
 clean-requires : tie.Need-clean-requires
 clean-requires c κs = search needs

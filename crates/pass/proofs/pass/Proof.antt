@@ -8,10 +8,6 @@ use Rattle.pass.proofs.AcceptLaws.{refused-so, passed-so, sound-so, ans
 use borrow.Author.Needs.{needs}
 use Rattle.pass.proofs.pass.Statement.{statement}
 use Rattle.pass.proofs.pass.Tie as tie
-use Rattle.pass.proofs.pass.Reads as reads
-use Rattle.pass.proofs.pass.Lts as lts
-use Rattle.pass.proofs.pass_checked.Reads as pass-checked-reads
-use Rattle.passchecks.proofs.check_pass.Reads as check-pass-reads
 
 check-pass-requires : tie.Need-check-pass-requires
 check-pass-requires c κs = search needs

@@ -10,20 +10,13 @@ use Rattle.grid.specs.Grid.{Length, cleaned}
 use Rattle.refusal.specs.Domain.{summed}
 use Rattle.refusal.proofs.Checks.{summed-passed}
 use Rattle.flexing.specs.Flex.{outerSum}
-use Rattle.rounds.specs.Cells.{Wide, itemsIn}
+use Rattle.itemtable.specs.Table.{Wide, itemsIn}
 use Rattle.passchecks.specs.Checks.{passSum}
 use Rattle.laying.proofs.LaidLaws.{items-in}
 use Rattle.pass.proofs.AcceptLaws.{wide-of, listed-of, gap-is, table-is, accepted-of}
 use borrow.Author.Needs.{needs}
 use Rattle.pass.proofs.pass_checked.Statement.{statement}
 use Rattle.pass.proofs.pass_checked.Tie as tie
-use Rattle.pass.proofs.pass_checked.Reads as reads
-use Rattle.pass.proofs.pass_checked.Lts as lts
-use Rattle.rounds.proofs.sum.outer_sum.Reads as outer-sum-reads
-use Rattle.grid.proofs.clean.Reads as clean-reads
-use Rattle.laying.proofs.lay_out.Reads as lay-out-reads
-use Rattle.mainstage.proofs.reading.read_main.Reads as read-main-reads
-use Rattle.refusal.proofs.check_sum.Reads as check-sum-reads
 
 slice-aggregate-read-main : tie.Need-slice-aggregate-read-main
 slice-aggregate-read-main c = search needs

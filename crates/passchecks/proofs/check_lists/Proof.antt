@@ -7,12 +7,6 @@ use Rattle.passchecks.proofs.Rooms.{room-is}
 use borrow.Author.Needs.{needs}
 use Rattle.passchecks.proofs.check_lists.Statement.{statement}
 use Rattle.passchecks.proofs.check_lists.Tie as tie
-use Rattle.passchecks.proofs.check_lists.Reads as reads
-use Rattle.passchecks.proofs.check_lists.Lts as lts
-use Rattle.refusal.proofs.shapes.has_room.Reads as has-room-reads
-use Rattle.refusal.proofs.shapes.is_alike.Reads as is-alike-reads
-use Rattle.passchecks.proofs.has_work_room.Reads as has-work-room-reads
-use Rattle.refusal.proofs.check_shape.Reads as check-shape-reads
 
 returns : tie.Need-returns
 returns c = simp (lt-ltb _ _ (c .if1 .taken))

@@ -8,13 +8,6 @@ use Rattle.passchecks.proofs.PassMarks.{pass-marks}
 use borrow.Author.Needs.{needs}
 use Rattle.passchecks.proofs.check_numbers.Statement.{statement}
 use Rattle.passchecks.proofs.check_numbers.Tie as tie
-use Rattle.passchecks.proofs.check_numbers.Reads as reads
-use Rattle.passchecks.proofs.check_numbers.Lts as lts
-use Rattle.passchecks.proofs.mark_across.Reads as mark-across-reads
-use Rattle.passchecks.proofs.mark_container.Reads as mark-container-reads
-use Rattle.passchecks.proofs.mark_main.Reads as mark-main-reads
-use Rattle.refusal.proofs.judge.Reads as judge-reads
-use Rattle.refusal.proofs.least.Reads as least-reads
 
 mark-main-requires : tie.Need-mark-main-requires
 mark-main-requires c κs = search needs

@@ -10,10 +10,6 @@ use Rattle.passchecks.proofs.Rooms.{roomy-of}
 use borrow.Author.Needs.{needs}
 use Rattle.passchecks.proofs.check_pass.Statement.{statement}
 use Rattle.passchecks.proofs.check_pass.Tie as tie
-use Rattle.passchecks.proofs.check_pass.Reads as reads
-use Rattle.passchecks.proofs.check_pass.Lts as lts
-use Rattle.passchecks.proofs.check_lists.Reads as check-lists-reads
-use Rattle.passchecks.proofs.check_numbers.Reads as check-numbers-reads
 
 check-lists-requires : tie.Need-check-lists-requires
 check-lists-requires c κs = search needs

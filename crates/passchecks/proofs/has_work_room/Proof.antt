@@ -4,10 +4,6 @@ use borrow.Author.Needs.{needs}
 use Rattle.passchecks.proofs.Rooms.{square, work-needed, no-work-needed}
 use Rattle.passchecks.proofs.has_work_room.Statement.{statement}
 use Rattle.passchecks.proofs.has_work_room.Tie as tie
-use Rattle.passchecks.proofs.has_work_room.Reads as reads
-use Rattle.passchecks.proofs.has_work_room.Lts as lts
-use Rattle.refusal.proofs.shapes.has_room.Reads as has-room-reads
-use Rattle.passchecks.proofs.is_balanced.Reads as is-balanced-reads
 
 is-balanced-requires : tie.Need-is-balanced-requires
 is-balanced-requires c κs = search needs

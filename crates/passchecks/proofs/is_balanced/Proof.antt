@@ -2,8 +2,6 @@
 use borrow.Author.Tests.{eq-eqb, ne-eqb}
 use Rattle.passchecks.proofs.is_balanced.Statement.{statement}
 use Rattle.passchecks.proofs.is_balanced.Tie as tie
-use Rattle.passchecks.proofs.is_balanced.Reads as reads
-use Rattle.passchecks.proofs.is_balanced.Lts as lts
 
 returns : tie.Need-returns
 returns c = simp (eq-eqb _ _ (c .if1 .taken))

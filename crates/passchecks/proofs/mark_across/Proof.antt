@@ -1,5 +1,5 @@
 -- The lists are the columns of the cross axis. Assumes nothing.
-use mathlib.Core.Path.{_≡_, sym, ap, _∙_}
+use mathlib.Core.Path.{_≡_, ap, _∙_}
 use native.Mathlib.Omega.{arith}
 use denote.Ref.{now}
 use lib.ListN.{length}
@@ -9,11 +9,6 @@ use Rattle.passchecks.proofs.Taken.{number-inside, code-inside, number-
 use Rattle.passchecks.proofs.PassMarks.{sorted-as, across-as}
 use Rattle.passchecks.proofs.mark_across.Statement.{statement}
 use Rattle.passchecks.proofs.mark_across.Tie as tie
-use Rattle.passchecks.proofs.mark_across.Reads as reads
-use Rattle.passchecks.proofs.mark_across.Lts as lts
-use Rattle.crosschecks.proofs.marks.mark_across.Reads as mark-across-reads
-use Rattle.container.proofs.columns.code_column.Reads as code-column-reads
-use Rattle.container.proofs.columns.column.Reads as column-reads
 
 -- where all of them are taken
 abbrev start : tie.After-code-column5 → tie.Start

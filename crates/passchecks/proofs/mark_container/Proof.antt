@@ -7,13 +7,6 @@ use borrow.Author.Needs.{needs}
 use Rattle.passchecks.proofs.PassMarks.{container-marks}
 use Rattle.passchecks.proofs.mark_container.Statement.{statement}
 use Rattle.passchecks.proofs.mark_container.Tie as tie
-use Rattle.passchecks.proofs.mark_container.Reads as reads
-use Rattle.passchecks.proofs.mark_container.Lts as lts
-use Rattle.crosschecks.proofs.numbers.mark_cross.Reads as mark-cross-reads
-use Rattle.passchecks.proofs.cross_numbers.Reads as cross-numbers-reads
-use Rattle.refusal.proofs.least.Reads as least-reads
-use Rattle.single.proofs.mark_code.Reads as mark-code-reads
-use Rattle.single.proofs.mark_given.Reads as mark-given-reads
 
 cross-numbers-requires : tie.Need-cross-numbers-requires
 cross-numbers-requires c κs = search needs

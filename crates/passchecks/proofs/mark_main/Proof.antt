@@ -10,11 +10,6 @@ use Rattle.container.specs.Columns.{mainLists}
 use Rattle.passchecks.proofs.Taken.{number-inside, code-inside, even-main, lists-are}
 use Rattle.passchecks.proofs.mark_main.Statement.{statement}
 use Rattle.passchecks.proofs.mark_main.Tie as tie
-use Rattle.passchecks.proofs.mark_main.Reads as reads
-use Rattle.passchecks.proofs.mark_main.Lts as lts
-use Rattle.flexchecks.proofs.mark_numbers.Reads as mark-numbers-reads
-use Rattle.container.proofs.columns.code_column.Reads as code-column-reads
-use Rattle.container.proofs.columns.column.Reads as column-reads
 
 -- where all of them are taken
 abbrev start : tie.After-code-column3 → tie.Start

@@ -7,8 +7,6 @@ use Rattle.records.proofs.Stored.{length-stored, within}
 use borrow.Author.Needs.{needs}
 use Rattle.records.proofs.put_codes.Statement.{statement}
 use Rattle.records.proofs.put_codes.Tie as tie
-use Rattle.records.proofs.put_codes.Reads as reads
-use Rattle.records.proofs.put_codes.Lts as lts
 
 -- src/lib.rt:87:5
 mul-codes : tie.Need-mul-codes

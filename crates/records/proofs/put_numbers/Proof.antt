@@ -7,8 +7,6 @@ use Rattle.records.proofs.Stored.{length-stored, within}
 use borrow.Author.Needs.{needs}
 use Rattle.records.proofs.put_numbers.Statement.{statement}
 use Rattle.records.proofs.put_numbers.Tie as tie
-use Rattle.records.proofs.put_numbers.Reads as reads
-use Rattle.records.proofs.put_numbers.Lts as lts
 
 -- src/lib.rt:52:5
 mul-nums : tie.Need-mul-nums

@@ -1,7 +1,7 @@
 -- `records::unpack` meets its contract: a walk of its MIR, by hand, with a loop whose invariant is that i items are stored (`Laid`). Assumes nothing.
 use mathlib.Core.Path.{_≡_, refl, sym, _∙_, ap, subst}
 use Prim.Native.Nat.{ℕ, zero, suc, _+_, _-_, _≤_, _<_, _^_, _*_, zero-le}
-use native.Mathlib.Nat.{add-zero, add-suc, lt-of-le-of-lt, lt-of-lt-of-le, le-antisymm}
+use native.Mathlib.Nat.{add-zero, add-suc, lt-of-lt-of-le, le-antisymm}
 use native.Mathlib.Numerals.{add-one-le, add-one-dec}
 use native.Mathlib.Omega.{arith}
 use mathlib.Core.WellFounded.{WellFounded, InvImage·wf}
@@ -27,7 +27,7 @@ use types.Kit.{Given, Item as Entry, ‵, raw, some, later, _⊛_, ⋆, runs, an
 use types.Part.{agg, whole, sub, look-in}
 use types.Run.{look, look-raw, store, init, forget, stop, hop, fld, from, load, lit, unit-lit, addr, of-opd, bin, and-then, no-more, assigns, first, blocks, stays, leaves-loop, land-last, returns, enter, alloc1, alloc0, params1, pass1, pass0, free1, free0, exec, again, loops, Below}
 use types.Tokens.{lft-new, lft-end}
-use sound.WpLaws.{FmC, fmOf, WpFn-mono}
+use sound.WpLaws.{fmOf, WpFn-mono}
 use denote.Exit.{yes}
 use denote.RattleType.{owns}
 use denote.Laws.{Is, shows}
@@ -37,7 +37,7 @@ use denote.Ref.{RefT, now}
 use denote.Slice.{sliceTy, sliceVal, ShrSlice, MutSlice, Room, slice-vals, shr-slice-tells, mut-slice-tells}
 use denote.Index.{place-is, elem-out, elem-back, looks-slice, shuts-slice}
 use denote.Signature.{plain}
-use denote.Builtin.{usize, f32, u32, unit}
+use denote.Builtin.{usize, f32, u32}
 use denote.Struct.Laws as LL
 use denote.Triple.Entry.{Vals, onEntry}
 use denote.Steps.{only, nothing, owned, peeks, heard}
@@ -48,7 +48,7 @@ use denote.Triple.Clauses.{ensured, lasts}
 use denote.Triple.Table.{entered, cited}
 use denote.Triple.Walked.{says, needs, Stays, stay-none-slice, stay-none, stay-slice, walkOf, Walks, ends-at, walked, goes-none-slice, goes-none, goes-slice, walk-meets}
 use Rattle.records.specs.declared.Item.{Item}
-use Rattle.records.specs.Items.{stored, numbersIn, codesIn, numbersOf, codesOf}
+use Rattle.records.specs.Items.{stored, numbersIn, codesIn}
 use Rattle.records.proofs.Laid.{blank, itemAt, numbersLaid, codesLaid, length-numbers, length-codes, all-numbers, all-codes}
 use Rattle.records.proofs.Again.{LentAgain, lends-again, comes-back}
 use Rattle.records.proofs.Item as T

@@ -2,7 +2,7 @@
 use mathlib.Core.Path.{_≡_, refl, sym, ap, _∙_}
 use mathlib.Core.Bool.{true, false}
 use borrow.Author.Needs.{needs}
-use lib.Ieee.{Float, binary32, neg, ofInt, ofBits}
+use lib.Ieee.{binary32, neg, ofInt, ofBits}
 use Rattle.refusal.specs.declared.Kind.{Kind}
 use Rattle.refusal.specs.declared.Kind.the-variants.{Length, Margin, Size, Factor, Worked}
 use Rattle.single.specs.declared.Bounds.{Bounds}

@@ -1,5 +1,5 @@
 -- `single::in_range` meets its contract: two comparisons with the bounds of a kind say what `inRange` says. Assumes nothing.
-use mathlib.Core.Path.{_≡_, ap, _∙_}
+use mathlib.Core.Path.{ap, _∙_}
 use mathlib.Core.Bool.{_&&_}
 use lib.Ieee.{le}
 use Rattle.single.specs.declared.Bounds.{Bounds}

@@ -1,5 +1,5 @@
 -- `single::is_fine` meets its contract: `fine-is` of proofs/Fine. Assumes nothing.
-use mathlib.Core.Path.{_≡_, ap, ap₂, _∙_}
+use mathlib.Core.Path.{ap, ap₂, _∙_}
 use mathlib.Core.Bool.{Bool, _&&_, _||_}
 use borrow.Author.Needs.{needs}
 use Rattle.single.specs.declared.Bounds.{Bounds}

@@ -1,8 +1,7 @@
 -- The mark of a number that may be absent: where it is given, its own; else none. Assumes nothing.
 use borrow.Author.Needs.{needs}
-use mathlib.Core.Path.{_≡_, sym, ap, _∙_}
+use mathlib.Core.Path.{sym, ap, _∙_}
 use mathlib.Core.Bool.{Bool}
-use Prim.Native.Nat.{ℕ}
 use Rattle.refusal.specs.Domain.{float}
 use Rattle.refusal.specs.Marks.{leastOf}
 use Rattle.refusal.specs.Optional.{optional}

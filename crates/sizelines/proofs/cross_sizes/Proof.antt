@@ -7,9 +7,6 @@ use Rattle.linesize.specs.CrossSize.{Items, items}
 use Rattle.sizelines.proofs.Sizing.{Inside, lent-even, Sizing, sizing-none, sizing-long, sizing-inside, sizing-next, sizing-all}
 use Rattle.sizelines.proofs.cross_sizes.Statement.{statement}
 use Rattle.sizelines.proofs.cross_sizes.Tie as tie
-use Rattle.sizelines.proofs.cross_sizes.Reads as reads
-use Rattle.sizelines.proofs.cross_sizes.Lts as lts
-use Rattle.linesize.proofs.cross_size.calculate_cross_size.Reads as calculate-cross-size-reads
 
 abbrev Inv-loop : tie.InvT-loop
 Inv-loop c counts measured minimum maximum capped edges start end auto-start auto-end sizes₀ from₀ j₀ sizes from j =

@@ -11,8 +11,8 @@ use borrow.Author.Needs.{needs}
 use Rattle.flexing.specs.declared.Item.{Item}
 use Rattle.flexing.specs.Flex.{outer, hypothetical}
 use Rattle.grid.specs.Floats.{each}
-use Rattle.rounds.specs.Cells.{itemIn}
-use Rattle.rounds.proofs.Each.{map-each}
+use Rattle.itemtable.specs.Table.{itemIn}
+use Rattle.itemtable.proofs.Each.{map-each}
 use Rattle.wrapping.proofs.Cells.{each-none, each-more}
 use Rattle.wrapping.proofs.outer_sizes.Statement.{statement}
 use Rattle.wrapping.proofs.outer_sizes.Tie as tie

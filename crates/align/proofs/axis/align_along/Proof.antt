@@ -1,5 +1,5 @@
 -- `align::axis::align_along` meets its contract: the steps of the definition, one after the other. Assumes nothing.
-use mathlib.Core.Path.{_≡_, refl, sym, ap, ap₂, _∙_}
+use mathlib.Core.Path.{ap, ap₂, _∙_}
 use lib.Ieee.{Float}
 use denote.Ref.{now}
 use Rattle.grid.specs.Grid.{cleaned}

@@ -1,5 +1,4 @@
 -- `align::axis::margin_or` meets its contract: the code's test is the definition's. Assumes nothing.
-use mathlib.Core.Path.{_≡_, refl}
 use borrow.Author.Tests.{eq-eqb, ne-eqb}
 use Rattle.align.specs.Axis.{margin}
 use borrow.Author.Needs.{needs}

@@ -1,17 +1,13 @@
 -- `align::axis::step_all` meets its contract: the cells are written from the front, and the walk's first is told by its place. Assumes nothing.
-use mathlib.Core.Path.{_≡_, refl, ap, _∙_, sym}
-use Prim.Native.Nat.{ℕ, _+_, _-_, _≤_, _<_}
+use mathlib.Core.Path.{_≡_, _∙_, sym}
+use Prim.Native.Nat.{_-_, _≤_}
 use native.Mathlib.Omega.{arith}
 use lib.ListN.{length}
-use lib.Ieee.{Float}
 use denote.Ref.{now}
-use mathlib.Core.Bool.{true, false, cond}
-use lib.Dec.{eqb}
 use borrow.Author.Tests.{eq-eqb, ne-eqb}
 use Rattle.align.specs.Lists.{overwritten}
-use Rattle.align.specs.Axis.{stepped, walked}
+use Rattle.align.specs.Axis.{stepped}
 use Rattle.align.proofs.Each.{written-none, written-turn, written-length, written-all}
-use borrow.Author.Needs.{needs}
 use Rattle.align.proofs.axis.step_all.Statement.{statement}
 use Rattle.align.proofs.axis.step_all.Tie as tie
 

@@ -1,12 +1,11 @@
 -- `align::axis::use_margins` meets its contract: the cells are written from the front. Assumes nothing.
-use mathlib.Core.Path.{_≡_, refl, ap, _∙_, sym}
-use Prim.Native.Nat.{ℕ, _+_, _-_, _≤_, _<_}
+use mathlib.Core.Path.{_≡_}
+use Prim.Native.Nat.{_-_, _≤_}
 use native.Mathlib.Omega.{arith}
 use lib.ListN.{length}
-use lib.Ieee.{Float}
 use denote.Ref.{now}
 use Rattle.align.specs.Lists.{overwritten}
-use Rattle.align.specs.Axis.{marginAt, margin}
+use Rattle.align.specs.Axis.{marginAt}
 use Rattle.align.proofs.Each.{written-none, written-turn, written-length, written-all}
 use borrow.Author.Needs.{needs}
 use Rattle.align.proofs.axis.use_margins.Statement.{statement}

@@ -4,8 +4,6 @@ use borrow.Author.Needs.{needs}
 use Rattle.container.proofs.ColumnLaws.{part-column}
 use Rattle.container.proofs.columns.column.Statement.{statement}
 use Rattle.container.proofs.columns.column.Tie as tie
-use Rattle.container.proofs.columns.column.Reads as reads
-use Rattle.container.proofs.columns.column.Lts as lts
 
 mul-from : tie.Need-mul-from
 mul-from c = search needs

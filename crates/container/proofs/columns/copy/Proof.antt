@@ -10,8 +10,6 @@ use lib.ListN.{length, getD, take, set, length-set}
 use lib.Seq.{take-suc, take-suc-set, take-all}
 use Rattle.container.proofs.columns.copy.Statement.{statement}
 use Rattle.container.proofs.columns.copy.Tie as tie
-use Rattle.container.proofs.columns.copy.Reads as reads
-use Rattle.container.proofs.columns.copy.Lts as lts
 
 abbrev Inv-loop : tie.InvT-loop
 Inv-loop xs to₀ i₀ to i = (i ≤ length xs) × (length to ≡ length to₀) × (take i to ≡ take i xs)

@@ -10,9 +10,6 @@ use Rattle.container.specs.Stages.{Stored}
 use Rattle.container.proofs.ColumnLaws.{stored-of}
 use Rattle.container.proofs.columns.store_column.Statement.{statement}
 use Rattle.container.proofs.columns.store_column.Tie as tie
-use Rattle.container.proofs.columns.store_column.Reads as reads
-use Rattle.container.proofs.columns.store_column.Lts as lts
-use Rattle.container.proofs.columns.copy.Reads as copy-reads
 
 mul-from : tie.Need-mul-from
 mul-from c = search needs

@@ -3,9 +3,6 @@ use borrow.Author.Needs.{needs}
 use Rattle.container.proofs.ColumnLaws.{four-of}
 use Rattle.container.proofs.columns.store_four.Statement.{statement}
 use Rattle.container.proofs.columns.store_four.Tie as tie
-use Rattle.container.proofs.columns.store_four.Reads as reads
-use Rattle.container.proofs.columns.store_four.Lts as lts
-use Rattle.container.proofs.columns.store_column.Reads as store-column-reads
 
 store-column-requires : tie.Need-store-column-requires
 store-column-requires c κs = search needs

@@ -1,5 +1,4 @@
 -- `crossaxis::cross_axis::are_both` meets its contract: either way, both sides are the same. Assumes nothing.
-use borrow.Author.Needs.{needs}
 use Rattle.crossaxis.proofs.cross_axis.are_both.Statement.{statement}
 use Rattle.crossaxis.proofs.cross_axis.are_both.Tie as tie
 

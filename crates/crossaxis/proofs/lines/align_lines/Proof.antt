@@ -1,5 +1,5 @@
 -- `crossaxis::lines::align_lines` meets its contract: the steps of the definition, one after the other. Assumes nothing.
-use mathlib.Core.Path.{_≡_, subst, _∙_}
+use mathlib.Core.Path.{subst}
 use denote.Ref.{now}
 use Rattle.linesize.specs.declared.container.Cross.{Cross}
 use Rattle.crossaxis.specs.Lines.{Along}

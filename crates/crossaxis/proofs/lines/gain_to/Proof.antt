@@ -1,7 +1,7 @@
 -- `crossaxis::lines::gain_to` meets its contract: the code's test is the definition's. Assumes nothing.
 use native.Mathlib.Omega.{arith}
 use Rattle.crossaxis.specs.Lines.{gainTo}
-use Rattle.align.proofs.Counts.{few}
+use Rattle.grid.proofs.Counts.{few}
 use borrow.Author.Needs.{needs}
 use Rattle.crossaxis.proofs.lines.gain_to.Statement.{statement}
 use Rattle.crossaxis.proofs.lines.gain_to.Tie as tie

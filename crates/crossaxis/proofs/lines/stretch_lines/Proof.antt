@@ -1,8 +1,7 @@
 -- `crossaxis::lines::stretch_lines` meets its contract: the cells are written from the front. Assumes nothing.
-use mathlib.Core.Path.{_≡_, sym, ap, _∙_}
-use Prim.Native.Nat.{ℕ, _-_, _≤_, _<_}
+use mathlib.Core.Path.{_≡_}
+use Prim.Native.Nat.{_-_, _≤_}
 use native.Mathlib.Omega.{arith}
-use native.Mathlib.Nat.{le-antisymm}
 use lib.ListN.{length}
 use denote.Ref.{now}
 use Rattle.align.specs.Lists.{overwritten}

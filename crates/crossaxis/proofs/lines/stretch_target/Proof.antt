@@ -1,5 +1,5 @@
 -- `crossaxis::lines::stretch_target` meets its contract: each arm of the match is a clause of the definition. Assumes nothing.
-use mathlib.Core.Path.{_≡_, sym, ap, _∙_}
+use mathlib.Core.Path.{sym, ap, _∙_}
 use Rattle.breaklimit.specs.declared.Bound.{Bound}
 use Rattle.crossaxis.specs.Lines.{else}
 use borrow.Author.Needs.{needs}

@@ -1,6 +1,5 @@
 -- `crosschecks::numbers::bound_of` meets its contract: the code's test is the definition's. Assumes nothing.
 use borrow.Author.Tests.{eq-eqb, ne-eqb}
-use borrow.Author.Needs.{needs}
 use Rattle.crosschecks.proofs.numbers.bound_of.Statement.{statement}
 use Rattle.crosschecks.proofs.numbers.bound_of.Tie as tie
 

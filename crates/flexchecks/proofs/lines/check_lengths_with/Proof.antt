@@ -7,10 +7,6 @@ use Rattle.refusal.specs.declared.Verdict.{Verdict}
 use borrow.Author.Needs.{needs}
 use Rattle.flexchecks.proofs.lines.check_lengths_with.Statement.{statement}
 use Rattle.flexchecks.proofs.lines.check_lengths_with.Tie as tie
-use Rattle.flexchecks.proofs.lines.check_lengths_with.Reads as reads
-use Rattle.flexchecks.proofs.lines.check_lengths_with.Lts as lts
-use Rattle.flexchecks.proofs.check_lengths.Reads as check-lengths-reads
-use Rattle.refusal.proofs.check_shape.Reads as check-shape-reads
 
 -- the verdict of the other lists
 abbrev others : tie.Start → Verdict

@@ -10,13 +10,6 @@ use Rattle.flexchecks.proofs.Division.{shape-of, lines-mark}
 use borrow.Author.Needs.{needs}
 use Rattle.flexchecks.proofs.lines.check_lines.Statement.{statement}
 use Rattle.flexchecks.proofs.lines.check_lines.Tie as tie
-use Rattle.flexchecks.proofs.lines.check_lines.Reads as reads
-use Rattle.flexchecks.proofs.lines.check_lines.Lts as lts
-use Rattle.flexchecks.proofs.lines.check_lengths_with.Reads as check-lengths-with-reads
-use Rattle.flexchecks.proofs.mark_numbers.Reads as mark-numbers-reads
-use Rattle.flexchecks.proofs.lines.mark_counts.Reads as mark-counts-reads
-use Rattle.refusal.proofs.judge.Reads as judge-reads
-use Rattle.refusal.proofs.least.Reads as least-reads
 
 -- the lists that the function is called with
 abbrev given : tie.Start → Lists

@@ -6,10 +6,6 @@ use Rattle.flexchecks.proofs.Division.{mark-is}
 use borrow.Author.Needs.{needs}
 use Rattle.flexchecks.proofs.lines.mark_counts.Statement.{statement}
 use Rattle.flexchecks.proofs.lines.mark_counts.Tie as tie
-use Rattle.flexchecks.proofs.lines.mark_counts.Reads as reads
-use Rattle.flexchecks.proofs.lines.mark_counts.Lts as lts
-use Rattle.flexlines.proofs.is_division.Reads as is-division-reads
-use Rattle.single.proofs.mark_code.Reads as mark-code-reads
 
 is-division-requires : tie.Need-is-division-requires
 is-division-requires c κs = search needs

@@ -3,11 +3,6 @@ use native.Mathlib.Omega.{arith}
 use borrow.Author.Needs.{needs}
 use Rattle.flexing.proofs.sharing.add_up.Statement.{statement}
 use Rattle.flexing.proofs.sharing.add_up.Tie as tie
-use Rattle.flexing.proofs.sharing.add_up.Reads as reads
-use Rattle.flexing.proofs.sharing.add_up.Lts as lts
-use Rattle.flexing.proofs.sizes.factor_of.Reads as factor-of-reads
-use Rattle.flexing.proofs.sizes.outer_size.Reads as outer-size-reads
-use Rattle.flexing.proofs.sizes.weight_of.Reads as weight-of-reads
 
 outer-size-requires : tie.Need-outer-size-requires
 outer-size-requires c κs = search needs

@@ -2,9 +2,6 @@
 use borrow.Author.Needs.{needs}
 use Rattle.flexing.proofs.sharing.limit.Statement.{statement}
 use Rattle.flexing.proofs.sharing.limit.Tie as tie
-use Rattle.flexing.proofs.sharing.limit.Reads as reads
-use Rattle.flexing.proofs.sharing.limit.Lts as lts
-use Rattle.flexing.proofs.sharing.magnitude_of.Reads as magnitude-of-reads
 use Rattle.flexing.specs.Flex.{limited}
 
 magnitude-of-requires : tie.Need-magnitude-of-requires

@@ -1,8 +1,6 @@
 -- The magnitude of a float: both branches compute. Assumes nothing.
 use Rattle.flexing.proofs.sharing.magnitude_of.Statement.{statement}
 use Rattle.flexing.proofs.sharing.magnitude_of.Tie as tie
-use Rattle.flexing.proofs.sharing.magnitude_of.Reads as reads
-use Rattle.flexing.proofs.sharing.magnitude_of.Lts as lts
 
 returns : tie.Need-returns
 returns c = rw (c .if1 .taken)

@@ -2,10 +2,6 @@
 use borrow.Author.Needs.{needs}
 use Rattle.flexing.proofs.sizes.clamped.Statement.{statement}
 use Rattle.flexing.proofs.sizes.clamped.Tie as tie
-use Rattle.flexing.proofs.sizes.clamped.Reads as reads
-use Rattle.flexing.proofs.sizes.clamped.Lts as lts
-use Rattle.flexing.proofs.sizes.lower.Reads as lower-reads
-use Rattle.flexing.proofs.sizes.raise.Reads as raise-reads
 use Rattle.flexing.specs.Flex.{clamp}
 
 lower-requires : tie.Need-lower-requires

@@ -2,9 +2,6 @@
 use borrow.Author.Needs.{needs}
 use Rattle.flexing.proofs.sizes.flexed_size.Statement.{statement}
 use Rattle.flexing.proofs.sizes.flexed_size.Tie as tie
-use Rattle.flexing.proofs.sizes.flexed_size.Reads as reads
-use Rattle.flexing.proofs.sizes.flexed_size.Lts as lts
-use Rattle.flexing.proofs.sizes.weight_of.Reads as weight-of-reads
 use Rattle.flexing.specs.Flex.{flexed}
 
 returns : tie.Need-returns

@@ -1,8 +1,6 @@
 -- Step 4e: each way through the tests is the definition under what they showed. Assumes nothing.
 use Rattle.flexing.proofs.sizes.is_frozen.Statement.{statement}
 use Rattle.flexing.proofs.sizes.is_frozen.Tie as tie
-use Rattle.flexing.proofs.sizes.is_frozen.Reads as reads
-use Rattle.flexing.proofs.sizes.is_frozen.Lts as lts
 use Rattle.flexing.specs.Flex.{freezes}
 
 returns : tie.Need-returns

@@ -2,10 +2,6 @@
 use borrow.Author.Needs.{needs}
 use Rattle.flexing.proofs.sizes.is_inflexible.Statement.{statement}
 use Rattle.flexing.proofs.sizes.is_inflexible.Tie as tie
-use Rattle.flexing.proofs.sizes.is_inflexible.Reads as reads
-use Rattle.flexing.proofs.sizes.is_inflexible.Lts as lts
-use Rattle.flexing.proofs.sizes.factor_of.Reads as factor-of-reads
-use Rattle.flexing.proofs.sizes.hypothetical_size.Reads as hypothetical-size-reads
 use Rattle.flexing.specs.Flex.{inflexible}
 
 factor-of-requires : tie.Need-factor-of-requires

@@ -2,9 +2,6 @@
 use borrow.Author.Needs.{needs}
 use Rattle.flexing.proofs.sizes.weight_of.Statement.{statement}
 use Rattle.flexing.proofs.sizes.weight_of.Tie as tie
-use Rattle.flexing.proofs.sizes.weight_of.Reads as reads
-use Rattle.flexing.proofs.sizes.weight_of.Lts as lts
-use Rattle.flexing.proofs.sizes.inner_base.Reads as inner-base-reads
 
 returns : tie.Need-returns
 returns c = search needs

@@ -1,7 +1,6 @@
 -- `linesize::container::inner_or` meets its contract: each arm of the match is a clause of the definition. Assumes nothing.
-use mathlib.Core.Path.{_≡_, sym, ap, _∙_}
+use mathlib.Core.Path.{sym, ap, _∙_}
 use Rattle.breaklimit.specs.declared.Bound.{Bound}
-use Rattle.breaklimit.specs.declared.Bound.the-variants.{Absent, Given}
 use Rattle.linesize.specs.Container.{orBounded}
 use borrow.Author.Needs.{needs}
 use Rattle.linesize.proofs.container.inner_or.Statement.{statement}

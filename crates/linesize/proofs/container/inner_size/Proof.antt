@@ -1,7 +1,7 @@
 -- `linesize::container::inner_size` meets its contract: each arm of the match is a clause of the definition. Assumes nothing.
 use mathlib.Core.Path.{sym, ap, _∙_}
 use Rattle.breaklimit.specs.declared.Bound.{Bound}
-use Rattle.breaklimit.specs.declared.Bound.the-variants.{Absent, Given}
+use Rattle.breaklimit.specs.declared.Bound.the-variants.{Given}
 use Rattle.linesize.specs.Container.{boundedBy}
 use borrow.Author.Needs.{needs}
 use Rattle.linesize.proofs.container.inner_size.Statement.{statement}

@@ -1,8 +1,7 @@
 -- `linesize::cross_size::line_size` meets its contract: the code's test is the definition's. Assumes nothing.
-use mathlib.Core.Path.{_≡_, sym, ap, _∙_}
+use mathlib.Core.Path.{sym, ap, _∙_}
 use mathlib.Core.Bool.{Bool, cond}
 use Rattle.grid.specs.Grid.{cleaned}
-use lib.Ieee.{Float}
 use Rattle.linesize.specs.Container.{orBounded, innerSize}
 use Rattle.linesize.specs.CrossSize.{lineSize}
 use borrow.Author.Needs.{needs}

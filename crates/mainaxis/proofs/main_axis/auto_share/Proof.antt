@@ -1,9 +1,8 @@
 -- `mainaxis::main_axis::auto_share` meets its contract: the code's tests are the definition's. Assumes nothing.
 use borrow.Author.Tests.{lt-ltb, le-ltb}
 use native.Mathlib.Omega.{arith}
-use Rattle.align.proofs.Counts.{few}
+use Rattle.grid.proofs.Counts.{few}
 use Rattle.mainaxis.specs.MainAxis.{autoShare}
-use borrow.Author.Needs.{needs}
 use Rattle.mainaxis.proofs.main_axis.auto_share.Statement.{statement}
 use Rattle.mainaxis.proofs.main_axis.auto_share.Tie as tie
 

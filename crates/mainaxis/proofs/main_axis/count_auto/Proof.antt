@@ -1,6 +1,6 @@
 -- `mainaxis::main_axis::count_auto` meets its contract: the count so far. Assumes nothing.
 use mathlib.Core.Path.{_≡_, sym, _∙_, ap}
-use Prim.Native.Nat.{ℕ, _+_, _-_, _≤_, _<_}
+use Prim.Native.Nat.{_-_, _≤_}
 use native.Mathlib.Omega.{arith}
 use lib.ListN.{length}
 use denote.Ref.{now}
@@ -8,7 +8,6 @@ use native.Mathlib.Nat.{le-antisymm}
 use borrow.Author.Tests.{eq-eqb, ne-eqb}
 use Rattle.align.specs.Axis.{autos}
 use Rattle.align.proofs.Each.{autos-none, autos-pass, autos-more, autos-within}
-use borrow.Author.Needs.{needs}
 use Rattle.mainaxis.proofs.main_axis.count_auto.Statement.{statement}
 use Rattle.mainaxis.proofs.main_axis.count_auto.Tie as tie
 

@@ -1,6 +1,6 @@
 -- `mainaxis::main_axis::distribute_remaining_free_space` meets its contract: the steps of the definition, one after the other. Assumes nothing.
-use mathlib.Core.Path.{_≡_, ap₂, sym, refl, _∙_}
-use Prim.Native.Nat.{ℕ, _+_, _≤_}
+use mathlib.Core.Path.{ap₂}
+use Prim.Native.Nat.{ℕ, _+_}
 use native.Mathlib.Omega.{arith}
 use denote.Ref.{now}
 use Rattle.mainaxis.specs.MainAxis.{autoCount}

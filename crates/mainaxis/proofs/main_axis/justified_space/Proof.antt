@@ -1,7 +1,6 @@
 -- `mainaxis::main_axis::justified_space` meets its contract: the code's tests are the definition's. Assumes nothing.
 use borrow.Author.Tests.{lt-ltb, le-ltb}
 use Rattle.mainaxis.specs.MainAxis.{justified}
-use borrow.Author.Needs.{needs}
 use Rattle.mainaxis.proofs.main_axis.justified_space.Statement.{statement}
 use Rattle.mainaxis.proofs.main_axis.justified_space.Tie as tie
 

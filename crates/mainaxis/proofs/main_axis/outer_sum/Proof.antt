@@ -1,9 +1,8 @@
 -- `mainaxis::main_axis::outer_sum` meets its contract: the sum so far. Assumes nothing.
-use mathlib.Core.Path.{_≡_, refl, ap, _∙_, sym}
-use Prim.Native.Nat.{ℕ, _+_, _-_, _≤_, _<_}
+use mathlib.Core.Path.{_≡_, ap, _∙_, sym}
+use Prim.Native.Nat.{_-_, _≤_}
 use native.Mathlib.Omega.{arith}
 use lib.ListN.{length}
-use lib.Ieee.{Float}
 use denote.Ref.{now}
 use native.Mathlib.Nat.{le-antisymm}
 use Rattle.align.specs.Lists.{total}

@@ -1,8 +1,7 @@
 -- `mainaxis::main_call::check_main_numbers` meets its contract: the least mark of its parts. Assumes nothing.
-use mathlib.Core.Path.{ap, ap₂, _∙_}
+use mathlib.Core.Path.{ap, _∙_}
 use Prim.Native.Nat.{min}
 use denote.Ref.{now}
-use native.Mathlib.Omega.{arith}
 use Rattle.refusal.specs.Marks.{judged}
 use Rattle.mainaxis.specs.MainAxis.{line}
 use Rattle.mainaxis.proofs.MainCalled.{main-checked}

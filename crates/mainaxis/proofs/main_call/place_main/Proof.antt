@@ -1,7 +1,6 @@
 -- `mainaxis::main_call::place_main` meets its contract: the checks refuse, or the line is placed. Assumes nothing.
-use mathlib.Core.Path.{_≡_, sym, ap, _∙_}
+use mathlib.Core.Path.{sym, _∙_}
 use denote.Ref.{now}
-use native.Mathlib.Omega.{arith}
 use Rattle.mainaxis.specs.MainAxis.{line}
 use Rattle.mainaxis.proofs.MainCalled.{main-even, main-shape-refused, main-numbers-refused, main-placed, content-same}
 use borrow.Author.Needs.{needs}

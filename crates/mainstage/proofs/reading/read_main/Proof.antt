@@ -6,17 +6,11 @@ use lib.ListN.{length}
 use denote.Ref.{now}
 use Rattle.flexing.specs.Items.{Lists, lists}
 use Rattle.flexing.specs.Accepted.{Even}
-use Rattle.rounds.specs.Cells.{Wide, Held, Kept}
+use Rattle.itemtable.specs.Table.{Wide, Held, Kept}
 use Rattle.container.specs.Columns.{mainLists}
 use Rattle.passchecks.proofs.Taken.{number-inside, code-inside, number-length, even-main, lists-are}
-use borrow.Author.Needs.{needs}
 use Rattle.mainstage.proofs.reading.read_main.Statement.{statement}
 use Rattle.mainstage.proofs.reading.read_main.Tie as tie
-use Rattle.mainstage.proofs.reading.read_main.Reads as reads
-use Rattle.mainstage.proofs.reading.read_main.Lts as lts
-use Rattle.container.proofs.columns.code_column.Reads as code-column-reads
-use Rattle.container.proofs.columns.column.Reads as column-reads
-use Rattle.rounds.proofs.table.read_items.Reads as read-items-reads
 
 -- where all of the columns are taken
 abbrev start : tie.After-code-column3 → tie.Start

@@ -1,6 +1,6 @@
 -- `marking::lists::mark_beside` meets its contract: the code of each item, and the number beside it. Assumes nothing.
 use mathlib.Core.Path.{sym, ap, ap₂, _∙_}
-use Prim.Native.Nat.{ℕ, _+_, min}
+use Prim.Native.Nat.{_+_, min}
 use lib.Dec.{eqb}
 use lib.ListN.{length, getD}
 use lib.Ieee.{nan}

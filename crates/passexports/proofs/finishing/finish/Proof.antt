@@ -5,10 +5,6 @@ use lib.Seq.{length-take-le}
 use borrow.Author.Needs.{needs}
 use Rattle.passexports.proofs.finishing.finish.Statement.{statement}
 use Rattle.passexports.proofs.finishing.finish.Tie as tie
-use Rattle.passexports.proofs.finishing.finish.Reads as reads
-use Rattle.passexports.proofs.finishing.finish.Lts as lts
-use Rattle.passexports.proofs.finishing.passed_to_c.Reads as passed-to-c-reads
-use Rattle.pass.proofs.pass.Reads as pass-reads
 
 mul-a : tie.Need-mul-a
 mul-a c = search needs

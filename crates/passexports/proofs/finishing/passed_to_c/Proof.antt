@@ -4,10 +4,6 @@ use Rattle.passexports.specs.Passed.{cRefused, cPassed}
 use borrow.Author.Needs.{needs}
 use Rattle.passexports.proofs.finishing.passed_to_c.Statement.{statement}
 use Rattle.passexports.proofs.finishing.passed_to_c.Tie as tie
-use Rattle.passexports.proofs.finishing.passed_to_c.Reads as reads
-use Rattle.passexports.proofs.finishing.passed_to_c.Lts as lts
-use Rattle.crossing.proofs.refusal_to_c.Reads as refusal-to-c-reads
-use Rattle.passexports.proofs.finishing.refused_to_c.Reads as refused-to-c-reads
 
 enum-known-a : tie.Need-enum-known-a
 enum-known-a c = search needs

@@ -1,6 +1,5 @@
 -- `refusal::shapes::has_room` meets its contract: the code's test is the definition's. Assumes nothing.
 use borrow.Author.Tests.{le-leb, lt-leb}
-use borrow.Author.Needs.{needs}
 use Rattle.refusal.proofs.shapes.has_room.Statement.{statement}
 use Rattle.refusal.proofs.shapes.has_room.Tie as tie
 

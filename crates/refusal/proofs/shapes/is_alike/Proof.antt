@@ -1,6 +1,5 @@
 -- `refusal::shapes::is_alike` meets its contract: the code's test is the definition's. Assumes nothing.
 use borrow.Author.Tests.{eq-eqb, ne-eqb}
-use borrow.Author.Needs.{needs}
 use Rattle.refusal.proofs.shapes.is_alike.Statement.{statement}
 use Rattle.refusal.proofs.shapes.is_alike.Tie as tie
 

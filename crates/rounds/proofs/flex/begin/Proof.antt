@@ -8,15 +8,10 @@ use lib.Ieee.{Float}
 use denote.Ref.{now}
 use Rattle.flexing.specs.declared.Item.{Item}
 use Rattle.flexing.specs.Flex.{Cell, inflexible, hypothetical, first}
-use Rattle.rounds.specs.Cells.{itemIn}
-use Rattle.rounds.proofs.Each.{put, Turned, turned-none, turned-next, turned-all, map-each}
+use Rattle.itemtable.specs.Table.{itemIn}
+use Rattle.itemtable.proofs.Each.{put, Turned, turned-none, turned-next, turned-all, map-each}
 use Rattle.rounds.proofs.flex.begin.Statement.{statement}
 use Rattle.rounds.proofs.flex.begin.Tie as tie
-use Rattle.rounds.proofs.flex.begin.Reads as reads
-use Rattle.rounds.proofs.flex.begin.Lts as lts
-use Rattle.flexing.proofs.sizes.hypothetical_size.Reads as hypothetical-size-reads
-use Rattle.flexing.proofs.sizes.is_inflexible.Reads as is-inflexible-reads
-use Rattle.rounds.proofs.table.pick.Reads as pick-reads
 
 abbrev Inv-loop : tie.InvT-loop
 Inv-loop table from n growing frozen₀ targets₀ i₀ frozen targets i = Turned n (λ k. first growing (itemIn table (from + k))) (λ k. itemIn table (from + k)) frozen₀ targets₀ frozen targets i

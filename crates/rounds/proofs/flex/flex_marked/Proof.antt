@@ -8,15 +8,6 @@ use Rattle.rounds.proofs.Finish.{finish}
 use borrow.Author.Needs.{needs}
 use Rattle.rounds.proofs.flex.flex_marked.Statement.{statement}
 use Rattle.rounds.proofs.flex.flex_marked.Tie as tie
-use Rattle.rounds.proofs.flex.flex_marked.Reads as reads
-use Rattle.rounds.proofs.flex.flex_marked.Lts as lts
-use Rattle.rounds.proofs.flex.begin.Reads as begin-reads
-use Rattle.rounds.proofs.flex.free_before.Reads as free-before-reads
-use Rattle.flexing.proofs.sharing.is_growing.Reads as is-growing-reads
-use Rattle.rounds.proofs.flex.run_rounds.Reads as run-rounds-reads
-use Rattle.rounds.proofs.flex.tidy.Reads as tidy-reads
-use Rattle.flexing.proofs.sharing.space_left.Reads as space-left-reads
-use Rattle.rounds.proofs.rounds.sum_up.Reads as sum-up-reads
 
 free-before-requires : tie.Need-free-before-requires
 free-before-requires c κs = search needs

@@ -10,19 +10,14 @@ use mir.Syntax.{w32}
 use mir.Val.{toZ, ofZ, SFits}
 use denote.Ref.{now}
 use Rattle.grid.specs.Grid.{Length, sixtyFourths}
-use Rattle.grid.proofs.to_sixtyfourths.Reads as to-sixtyfourths-reads
 use Rattle.flexing.specs.declared.Item.{Item}
 use Rattle.grid.specs.Floats.{gaps, _⊕_}
 use Rattle.flexing.specs.Flex.{total, outer, hypothetical, freeBefore}
-use Rattle.rounds.specs.Cells.{itemIn, itemsIn}
-use Rattle.rounds.proofs.Each.{length-each}
-use Rattle.flexing.proofs.Units.{used-length, usedUnits, subtracted}
+use Rattle.itemtable.specs.Table.{itemIn, itemsIn}
+use Rattle.itemtable.proofs.Each.{length-each}
+use Rattle.flexlaws.proofs.Units.{used-length, usedUnits, subtracted}
 use Rattle.rounds.proofs.flex.free_before.Statement.{statement}
 use Rattle.rounds.proofs.flex.free_before.Tie as tie
-use Rattle.rounds.proofs.flex.free_before.Reads as reads
-use Rattle.rounds.proofs.flex.free_before.Lts as lts
-use Rattle.rounds.proofs.flex.hypothetical_sum.Reads as hypothetical-sum-reads
-use Rattle.flexing.proofs.sharing.gaps_of.Reads as gaps-of-reads
 use mathlib.Core.List.{List}
 
 -- the items that the function is called with
@@ -38,8 +33,8 @@ used-is s x y p q =
     let e : x ⊕ y ≡ gaps (s .args .gap) (length (items s)) ⊕ total (λ it. outer it (hypothetical it)) (items s) = ap₂ (λ (a b : Float). a ⊕ b) (p ∙ ap (λ (k : ℕ). gaps (s .args .gap) k) (sym n)) q in
     (subst (λ (z : Float). Length z) (sym e) (r .0), ap sixtyFourths e ∙ r .1)
 
-gaps-of-requires : tie.Need-gaps-of-requires
-gaps-of-requires c κs = search needs
+sum-axis-gaps-requires : tie.Need-sum-axis-gaps-requires
+sum-axis-gaps-requires c κs = search needs
 
 hypothetical-sum-requires : tie.Need-hypothetical-sum-requires
 hypothetical-sum-requires c κs = search needs
@@ -48,7 +43,7 @@ to-sixtyfourths-requires : tie.Need-to-sixtyfourths-requires
 to-sixtyfourths-requires c κs = search needs
 
 to-sixtyfourths-requires-2 : tie.Need-to-sixtyfourths-requires-2
-to-sixtyfourths-requires-2 c κs = let h = c .before in used-is (h .before .before .before) (h .before .gaps-of .result) (h .hypothetical-sum .result) (h .before .gaps-of .ensures) (h .hypothetical-sum .ensures) .0
+to-sixtyfourths-requires-2 c κs = let h = c .before in used-is (h .before .before .before) (h .before .sum-axis-gaps .result) (h .hypothetical-sum .result) (h .before .sum-axis-gaps .ensures) (h .hypothetical-sum .ensures) .0
 
 abbrev bits : ℤ → ℤ
 bits z = toZ w32 (ofZ w32 z)
@@ -66,7 +61,7 @@ both : (c : tie.After-struct-told2) → SFits w32 (bits (a-of c) -ℤ bits (b-of
 both c =
     let s = began c in
     let a = c .before .before .before .before .before in
-    let u = used-is s (a .before .before .gaps-of .result) (a .before .hypothetical-sum .result) (a .before .before .gaps-of .ensures) (a .before .hypothetical-sum .ensures) in
+    let u = used-is s (a .before .before .sum-axis-gaps .result) (a .before .hypothetical-sum .result) (a .before .before .sum-axis-gaps .ensures) (a .before .hypothetical-sum .ensures) in
     subtracted (a-of c) (b-of c) (sixtyFourths (s .args .inner)) (usedUnits (s .args .gap) (items s)) (a .to-sixtyfourths .ensures) (c .before .before .before .before .to-sixtyfourths2 .ensures ∙ u .1) (s .pre .1 .inner-is .small)
     (subst (λ (z : ℤ). natAbs z ≤ 16777216) (u .1) (u .0 .small))
 
@@ -80,7 +75,7 @@ pub free-before-spec : {M : Type 1} → statement M
 free-before-spec =
     tie.close
     (tie.spec
-    gaps-of-requires
+    sum-axis-gaps-requires
     hypothetical-sum-requires
     to-sixtyfourths-requires
     to-sixtyfourths-requires-2

@@ -9,15 +9,10 @@ use denote.Ref.{now}
 use Rattle.flexing.specs.declared.Item.{Item}
 use Rattle.flexing.specs.Flex.{total, outer, hypothetical}
 use Rattle.grid.specs.Floats.{each}
-use Rattle.rounds.specs.Cells.{itemIn}
-use Rattle.rounds.proofs.Each.{total-none, sum-turn}
+use Rattle.itemtable.specs.Table.{itemIn}
+use Rattle.itemtable.proofs.Each.{total-none, sum-turn}
 use Rattle.rounds.proofs.flex.hypothetical_sum.Statement.{statement}
 use Rattle.rounds.proofs.flex.hypothetical_sum.Tie as tie
-use Rattle.rounds.proofs.flex.hypothetical_sum.Reads as reads
-use Rattle.rounds.proofs.flex.hypothetical_sum.Lts as lts
-use Rattle.flexing.proofs.sizes.hypothetical_size.Reads as hypothetical-size-reads
-use Rattle.flexing.proofs.sizes.outer_size.Reads as outer-size-reads
-use Rattle.rounds.proofs.table.pick.Reads as pick-reads
 
 abbrev Inv-loop : tie.InvT-loop
 Inv-loop table from n s₀ i₀ s i = (i ≤ n) × (s ≡ total (λ it. outer it (hypothetical it)) (each i (λ k. itemIn table (from + k))))

@@ -10,10 +10,6 @@ use Rattle.flexing.specs.Steps.{Summed}
 use Rattle.rounds.proofs.Loop.{Running, running-none, running-next, running-few, running-done, running-less}
 use Rattle.rounds.proofs.flex.run_rounds.Statement.{statement}
 use Rattle.rounds.proofs.flex.run_rounds.Tie as tie
-use Rattle.rounds.proofs.flex.run_rounds.Reads as reads
-use Rattle.rounds.proofs.flex.run_rounds.Lts as lts
-use Rattle.rounds.proofs.rounds.one_round.Reads as one-round-reads
-use Rattle.rounds.proofs.rounds.sum_up.Reads as sum-up-reads
 
 abbrev Inv-loop : tie.InvT-loop
 Inv-loop table from n ln frozen₀ targets₀ s₀ rounds₀ frozen targets s rounds = Running table from n ln frozen₀ targets₀ frozen targets rounds × Summed (ln .growing) (cellsOf table from n frozen targets) s

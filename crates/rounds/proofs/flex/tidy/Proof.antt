@@ -1,5 +1,5 @@
 -- No target is -0.0: the first i are cleaned, the others as they were. Assumes nothing.
-use borrow.Author.Needs.{needs, scaled-fits}
+use borrow.Author.Needs.{scaled-fits}
 use borrow.Author.Count.{below-none, below-more}
 use mathlib.Core.Path.{_≡_, refl, ap, _∙_}
 use mathlib.Core.List.{List}
@@ -12,11 +12,8 @@ use lib.Seq.{getD-set-same, getD-set-other}
 use lib.Ieee.{Float, nan}
 use denote.Ref.{now}
 use Rattle.grid.specs.Grid.{cleaned}
-use Rattle.grid.proofs.clean.Reads as clean-reads
 use Rattle.rounds.proofs.flex.tidy.Statement.{statement}
 use Rattle.rounds.proofs.flex.tidy.Tie as tie
-use Rattle.rounds.proofs.flex.tidy.Reads as reads
-use Rattle.rounds.proofs.flex.tidy.Lts as lts
 
 record Tidied (n : ℕ) (old new : List Float) (i : ℕ) : Type 0 where
   inside : i ≤ n

@@ -1,5 +1,4 @@
 -- The flexed sizes: the unfrozen cells before i are at theirs, those from i on as they were, and the sum so far is of the violations before i. Assumes nothing.
-use borrow.Author.Needs.{needs}
 use mathlib.Core.Path.{_≡_, sym, ap, ap₂, _∙_, subst}
 use mathlib.Core.Bool.{Bool, true, false, cond}
 use Prim.Native.Nat.{ℕ, _+_, _-_}
@@ -11,16 +10,12 @@ use Rattle.grid.specs.Floats.{_⊖_, each}
 use Rattle.flexing.specs.declared.Item.{Item}
 use Rattle.flexing.specs.declared.Share.{Share}
 use Rattle.flexing.specs.Flex.{Cell, clamp, total, left, flexed, violation}
-use Rattle.rounds.specs.Cells.{itemIn, cellAt}
+use Rattle.itemtable.specs.Table.{itemIn}
+use Rattle.rounds.specs.Cells.{cellAt}
 use Rattle.flexing.specs.Steps.{sized}
-use Rattle.rounds.proofs.Each.{left-none, left-turn, left-pass, put, Turned, turned-none, turned-pass, turned-size, turned-all, map-each}
+use Rattle.itemtable.proofs.Each.{left-none, left-turn, left-pass, put, Turned, turned-none, turned-pass, turned-size, turned-all, map-each}
 use Rattle.rounds.proofs.rounds.flex_sizes.Statement.{statement}
 use Rattle.rounds.proofs.rounds.flex_sizes.Tie as tie
-use Rattle.rounds.proofs.rounds.flex_sizes.Reads as reads
-use Rattle.rounds.proofs.rounds.flex_sizes.Lts as lts
-use Rattle.flexing.proofs.sizes.clamped.Reads as clamped-reads
-use Rattle.flexing.proofs.sizes.flexed_size.Reads as flexed-size-reads
-use Rattle.rounds.proofs.table.pick.Reads as pick-reads
 
 abbrev Inv-loop : tie.InvT-loop
 Inv-loop table from n sh frozen targets₀ sum₀ i₀ targets sum i =

@@ -6,15 +6,10 @@ use denote.Ref.{now}
 use Rattle.flexing.specs.Flex.{Cell}
 use Rattle.flexing.specs.Steps.{settled}
 use Rattle.rounds.specs.Cells.{cellAt, cellsOf}
-use Rattle.rounds.proofs.Each.{length-each}
-use Rattle.flexing.proofs.Round.{round-is}
+use Rattle.itemtable.proofs.Each.{length-each}
+use Rattle.flexlaws.proofs.Round.{round-is}
 use Rattle.rounds.proofs.rounds.one_round.Statement.{statement}
 use Rattle.rounds.proofs.rounds.one_round.Tie as tie
-use Rattle.rounds.proofs.rounds.one_round.Reads as reads
-use Rattle.rounds.proofs.rounds.one_round.Lts as lts
-use Rattle.flexing.proofs.sharing.share_of.Reads as share-of-reads
-use Rattle.rounds.proofs.rounds.settle_all.Reads as settle-all-reads
-use Rattle.rounds.proofs.rounds.flex_sizes.Reads as flex-sizes-reads
 
 share-of-requires : tie.Need-share-of-requires
 share-of-requires c κs = search needs

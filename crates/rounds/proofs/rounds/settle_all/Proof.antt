@@ -1,5 +1,5 @@
 -- The cells after a round: those before i are settled, those from i on as they were. Assumes nothing.
-use mathlib.Core.Path.{_≡_, sym, ap, ap₂, _∙_}
+use mathlib.Core.Path.{_≡_, sym, ap₂, _∙_}
 use mathlib.Core.Bool.{Bool, true, false}
 use Prim.Native.Nat.{ℕ, _+_, _-_}
 use native.Mathlib.Nat.{le-refl, le-trans}
@@ -10,16 +10,12 @@ use denote.Ref.{now}
 use Rattle.grid.specs.Floats.{_⊖_}
 use Rattle.flexing.specs.declared.Item.{Item}
 use Rattle.flexing.specs.Flex.{Cell, clamp, freezes}
-use Rattle.rounds.specs.Cells.{itemIn, cellAt}
+use Rattle.itemtable.specs.Table.{itemIn}
+use Rattle.rounds.specs.Cells.{cellAt}
 use Rattle.flexing.specs.Steps.{settled}
-use Rattle.rounds.proofs.Each.{put, Turned, turned-none, turned-pass, turned-next, turned-all, map-each}
+use Rattle.itemtable.proofs.Each.{put, Turned, turned-none, turned-pass, turned-next, turned-all, map-each}
 use Rattle.rounds.proofs.rounds.settle_all.Statement.{statement}
 use Rattle.rounds.proofs.rounds.settle_all.Tie as tie
-use Rattle.rounds.proofs.rounds.settle_all.Reads as reads
-use Rattle.rounds.proofs.rounds.settle_all.Lts as lts
-use Rattle.flexing.proofs.sizes.clamped.Reads as clamped-reads
-use Rattle.flexing.proofs.sizes.is_frozen.Reads as is-frozen-reads
-use Rattle.rounds.proofs.table.pick.Reads as pick-reads
 
 abbrev Inv-loop : tie.InvT-loop
 Inv-loop table from n sum frozen₀ targets₀ i₀ frozen targets i = Turned n (λ k. settled sum (cellAt table from frozen₀ targets₀ k)) (λ k. itemIn table (from + k)) frozen₀ targets₀ frozen targets i

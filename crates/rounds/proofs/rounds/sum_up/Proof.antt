@@ -1,5 +1,4 @@
 -- The sums of a round: those so far are of the first i cells, and a turn adds one. Assumes nothing.
-use borrow.Author.Needs.{needs, scaled-fits}
 use mathlib.Core.Path.{_≡_, refl, sym, _∙_, subst}
 use mathlib.Core.Bool.{Bool, true, false, cond}
 use Prim.Native.Nat.{ℕ, _+_, _-_, _≤_, zero-le}
@@ -14,13 +13,9 @@ use Rattle.flexing.specs.declared.Sums.{Sums}
 use Rattle.flexing.specs.Flex.{Cell, taken, factor, weight}
 use Rattle.flexing.specs.Steps.{Added, Summed}
 use Rattle.rounds.specs.Cells.{cellAt}
-use Rattle.rounds.proofs.Each.{total-none, left-none, sum-turn, left-sum, unfrozen-none, unfrozen-next}
+use Rattle.itemtable.proofs.Each.{total-none, left-none, sum-turn, left-sum, unfrozen-none, unfrozen-next}
 use Rattle.rounds.proofs.rounds.sum_up.Statement.{statement}
 use Rattle.rounds.proofs.rounds.sum_up.Tie as tie
-use Rattle.rounds.proofs.rounds.sum_up.Reads as reads
-use Rattle.rounds.proofs.rounds.sum_up.Lts as lts
-use Rattle.flexing.proofs.sharing.add_up.Reads as add-up-reads
-use Rattle.rounds.proofs.table.pick.Reads as pick-reads
 
 abbrev Inv-loop : tie.InvT-loop
 Inv-loop table from n growing frozen targets s₀ i₀ s i = (i ≤ n) × (s .left ≤ i) × Summed growing (each i (cellAt table from frozen targets)) s

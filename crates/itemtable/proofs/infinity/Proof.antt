@@ -1,0 +1,12 @@
+-- One divided by zero is infinite: it computes. Assumes nothing.
+use mathlib.Core.Path.{refl}
+use lib.Ieee.{ofBits, div}
+use Rattle.itemtable.proofs.infinity.Statement.{statement}
+use Rattle.itemtable.proofs.infinity.Tie as tie
+
+returns : tie.Need-returns
+unfolding ofBits div
+returns c = refl
+
+pub infinity-spec : {M : Type 1} → statement M
+infinity-spec = tie.close (tie.spec returns)

@@ -1,0 +1,16 @@
+-- A number that may be absent, as it is read. Assumes nothing.
+use borrow.Author.Needs.{needs}
+use Rattle.itemtable.proofs.read_or.Statement.{statement}
+use Rattle.itemtable.proofs.read_or.Tie as tie
+
+clean-requires : tie.Need-clean-requires
+clean-requires c κs = search needs
+
+returns : tie.Need-returns
+returns c = rw (c .clean .ensures, c .before .if1 .taken)
+
+returns-2 : tie.Need-returns-2
+returns-2 c = rw (c .if1 .left)
+
+pub read-or-spec : {M : Type 1} → statement M
+read-or-spec = tie.close (tie.spec clean-requires returns returns-2)

@@ -1,0 +1,129 @@
+// The break limit, for a host in C or C++ (include/fratolivem.h). Enums do not cross, so kinds are codes here, and a code that names nothing is
+// refusal 5. The call takes any bits; all else is inside.
+ghost use mathlib.Core.Path.{_≡_};
+ghost use lib.Ieee.{Float};
+ghost use Rattle.breaklimit.specs.Limit.{limitFrom};
+ghost use Rattle.refusal.specs.Marks.{leastOf};
+ghost use Rattle.limitexports.specs.Limits.{boundOf, cSpace, cRefused, cLimit, askedCodes, limitFromC};
+use breaklimit::AvailableSpace;
+use breaklimit::Bound;
+use breaklimit::Query;
+use breaklimit::space_of;
+use crossing::CAnswer;
+use crossing::refusal_to_c;
+use refusal::Mark;
+use refusal::Verdict;
+
+// A break limit: number and place as in every answer, then its kind (0 definite, 1 min-content, 2 max-content, 3 none: refused), and the limit where it is definite.
+#[repr(C)]
+pub struct CLimit {
+    pub number: u32,
+    pub at: u32,
+    pub place: u32,
+    pub kind: u32,
+    pub limit: f32,
+}
+
+fn bound_of(given: bool, x: f32) -> Bound
+    ensures { λ r. ⌜ r ≡ boundOf given x ⌝ }
+{
+    if given {
+        Bound::Given(x)
+    } else {
+        Bound::Absent
+    }
+}
+
+fn space_to_c(space: AvailableSpace) -> CLimit
+    ensures { λ r. ⌜ r ≡ cSpace space ⌝ }
+{
+    match space {
+        AvailableSpace::Definite(x) => CLimit {
+            number: 0,
+            at: 0,
+            place: 0,
+            kind: 0,
+            limit: x,
+        },
+        AvailableSpace::MinContent => CLimit {
+            number: 0,
+            at: 0,
+            place: 0,
+            kind: 1,
+            limit: 0.0,
+        },
+        AvailableSpace::MaxContent => CLimit {
+            number: 0,
+            at: 0,
+            place: 0,
+            kind: 2,
+            limit: 0.0,
+        },
+    }
+}
+
+// A refused limit that a host hands on unread must be refused again: its kind names none.
+fn no_limit(r: CAnswer) -> CLimit
+    ensures { λ l. ⌜ l ≡ cRefused r ⌝ }
+{
+    CLimit {
+        number: r.number,
+        at: r.at,
+        place: r.place,
+        kind: 3,
+        limit: 0.0,
+    }
+}
+
+// The mark of the codes of a break limit, all of them the container's.
+fn mark_codes(known: u32, main: u32, row: u32, kind: u32, low: u32, high: u32) -> Mark
+    ensures { λ r. ⌜ ((x y z : Float) → r .0 ≡ leastOf (askedCodes (record { known = known; main = main; row = row; kind = kind; available = x; low = low; minimum = y; high = high; maximum = z })) 0) ⌝ }
+{
+    let flags = refusal::least(
+        single::mark_code(1, known, 0),
+        refusal::least(single::mark_code(1, main, 0), single::mark_code(1, row, 0)),
+    );
+    let kinds = refusal::least(
+        single::mark_code(2, kind, 0),
+        refusal::least(single::mark_code(1, low, 0), single::mark_code(1, high, 0)),
+    );
+    refusal::least(flags, kinds)
+}
+
+fn limit_to_c(v: Verdict, q: Query) -> CLimit
+    ensures { λ r. ⌜ r ≡ cLimit (limitFrom v q) ⌝ }
+{
+    match v {
+        Verdict::Refused(why) => no_limit(refusal_to_c(why)),
+        Verdict::Passed => space_to_c(breaklimit::limit_of(q)),
+    }
+}
+
+#[no_mangle]
+pub extern "C" fn fratolivem_break_limit(
+    known: u32,
+    main: u32,
+    row: u32,
+    kind: u32,
+    available: f32,
+    low: u32,
+    minimum: f32,
+    high: u32,
+    maximum: f32,
+) -> CLimit
+    ensures { λ r. ⌜ r ≡ limitFromC (record { known = known; main = main; row = row; kind = kind; available = available; low = low; minimum = minimum; high = high; maximum = maximum }) ⌝ }
+{
+    let codes = mark_codes(known, main, row, kind, low, high);
+    let space = space_of(kind, available);
+    let least = bound_of(low == 1, minimum);
+    let most = bound_of(high == 1, maximum);
+    let q = Query {
+        known_is_definite: known == 1,
+        main_is_definite: main == 1,
+        is_row: row == 1,
+        available: space,
+        minimum: least,
+        maximum: most,
+    };
+    limit_to_c(breaklimit::check_limit(codes, q), q)
+}
