@@ -1,3 +1,4 @@
 pub mod Each
 pub mod Spread
 pub mod Fallback
+pub mod InOrder

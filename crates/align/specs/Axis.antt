@@ -1,4 +1,4 @@
--- What both axes share: gaps, margins that may be auto, and offsets in the order of the walk. Assumes nothing.
+-- What both axes share: margins that may be auto, and offsets in the order of the walk. Assumes nothing.
 use mathlib.Core.Bool.{Bool, cond}
 use mathlib.Core.List.{List}
 use Prim.Native.Nat.{ℕ, zero, suc, _+_, _-_}

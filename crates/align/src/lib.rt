@@ -4,7 +4,7 @@ ghost use mathlib.Core.Path.{_≡_};
 ghost use Prim.Native.Nat.{_≤_, _<_};
 ghost use Rattle.align.specs.Align.{positionOf, distributionOf, contentOf, selfOf, fallbackOf, fallback, madeSafe, positioned, firstOffset, laterOffset, selfOffset};
 
-pub mod axis; // axis.rt: gaps, margins that may be auto, and offsets in the order of the walk
+pub mod axis; // axis.rt: margins that may be auto, and offsets in the order of the walk
 
 // CSS-ALIGN, `<content-position>` and `<self-position>`.
 pub enum Position {

@@ -16,7 +16,7 @@ use lib.Ieee.{Float, nan, binary32, add}
 use Rattle.grid.specs.Grid.{At, onGrid, sixtyFourths}
 use Rattle.grid.proofs.Meaning.{at-of-grid}
 use Rattle.grid.proofs.Sums.{add-grid, abs-add}
-use Rattle.refusal.specs.Marks.{sumUpTo}
+use Rattle.grid.specs.Floats.{sumUpTo}
 use Rattle.refusal.proofs.Sweep.{sum-more}
 use Rattle.breaklimit.specs.declared.AvailableSpace.{AvailableSpace}
 use Rattle.breaking.specs.Breaking.{limitOf, fits}

@@ -8,7 +8,7 @@ use lib.IntN.{ℤ, natAbs}
 use lib.Ieee.{Float, nan}
 use Rattle.grid.specs.Grid.{sixtyFourths}
 use Rattle.refusal.specs.Domain.{Number, float, Input, checked, shape, summed, then}
-use Rattle.refusal.specs.Marks.{sumUpTo}
+use Rattle.grid.specs.Floats.{sumUpTo}
 use Rattle.refusal.specs.declared.Kind.the-variants.{Length, Size}
 use Rattle.refusal.specs.declared.Verdict.{Verdict}
 use Rattle.refusal.specs.declared.Verdict.the-variants.{Passed}

@@ -1,4 +1,4 @@
--- What the parts of a breaking call ask and ensure; no contract of an entry point cites this file. Assumes nothing.
+-- What the parts of a breaking call ask and ensure. Only contracts of parts cite it. Assumes nothing.
 use mathlib.Core.Path.{_≡_}
 use mathlib.Core.List.{List, [], _∷_, _++_}
 use Prim.Native.Nat.{ℕ, suc, _+_, _-_, _≤_}

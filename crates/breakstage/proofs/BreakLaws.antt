@@ -13,13 +13,13 @@ use Rattle.itemtable.specs.Table.{itemsIn}
 use Rattle.wrapping.specs.declared.Mode.{Mode}
 use Rattle.wrapping.specs.declared.Mode.the-variants.{Single, Greedy, Balanced}
 use Rattle.wrapping.specs.Wrapping as wrapping
-use Rattle.wrapping.specs.Wrapping.{Lent, Room, Wrapped}
+use Rattle.wrapping.specs.Wrapping.{modeOf, Lent, Room, Wrapped}
 use Rattle.wrapping.specs.Outer.{outerSizes}
 use Rattle.wrapping.proofs.Given.{sizes-long}
 use Rattle.wrapping.proofs.Division.{Divides, lines-divide, read-back}
 use Rattle.container.specs.declared.Container.{Container}
 use Rattle.container.specs.Container.{limitOf}
-use Rattle.breakstage.specs.BreakStage.{modeOf, Broken}
+use Rattle.breakstage.specs.BreakStage.{Broken}
 
 -- ---- breaking
 

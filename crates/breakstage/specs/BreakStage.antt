@@ -1,26 +1,16 @@
--- The lines of the whole pass: what breaking asks, and what it gives, by the definition of the wrap modes. Assumes nothing.
-use mathlib.Core.Bool.{cond}
+-- The lines of the whole pass: what breaking asks, and what it gives, by the definition of the wrap modes. Only contracts of parts cite it. Assumes
+-- nothing.
 use mathlib.Core.List.{List}
 use Prim.Native.Nat.{ℕ}
-use lib.Dec.{eqb, ltb}
 use lib.Ieee.{Float}
 use Rattle.grid.specs.Grid.{cleaned}
 use Rattle.breaking.specs.Steps.{Breakable}
 use Rattle.itemtable.specs.Table.{Wide, itemsIn}
-use Rattle.wrapping.specs.declared.Mode.{Mode}
-use Rattle.wrapping.specs.declared.Mode.the-variants.{Single, Greedy, Balanced}
 use Rattle.wrapping.specs.Wrapping as wrapping
+use Rattle.wrapping.specs.Wrapping.{modeOf}
 use Rattle.wrapping.specs.Outer.{outerSizes}
 use Rattle.container.specs.declared.Container.{Container}
 use Rattle.container.specs.Container.{limitOf}
-
--- ---- the container
-
--- nowrap; wrap and wrap-reverse; balance and balance-reverse
-abbrev pub modeOf : ℕ → Mode
-modeOf wrap = cond (eqb wrap 0) Single (cond (ltb wrap 3) Greedy Balanced)
-
--- ---- breaking
 
 -- the items of a table, which the checks accepted, and room for their lines
 pub record Breaks (c : Container) (n : ℕ) (t : List Float) (before : wrapping.Lent) : Type 0 where

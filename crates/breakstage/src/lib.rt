@@ -1,7 +1,8 @@
 // The lines of the whole pass (document 01, "Breaking"), of the items that the table holds.
 ghost use mathlib.Core.Path.{_≡_};
 ghost use Rattle.wrapping.specs.Wrapping as wrapping;
-ghost use Rattle.breakstage.specs.BreakStage.{modeOf, Breaks, Broken};
+ghost use Rattle.wrapping.specs.Wrapping.{modeOf};
+ghost use Rattle.breakstage.specs.BreakStage.{Breaks, Broken};
 use breaklimit::space_of;
 use container::Container;
 use wrapping::Mode;

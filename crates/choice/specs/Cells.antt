@@ -1,4 +1,4 @@
--- What the code computes on its cells, as the machine computes it, and what the cells hold. Only contracts of parts cite it. Assumes nothing: these are definitions.
+-- What the code computes on its cells, as the machine computes it, and what the cells hold. Only contracts of parts cite it. Assumes nothing.
 use mathlib.Core.Path.{_≡_}
 use mathlib.Core.Logic.{_⊎_}
 use mathlib.Core.List.{List}

@@ -1,4 +1,4 @@
--- What the parts of the pass say of columns in one list of cells; no contract of an entry point cites this file. Assumes nothing.
+-- What the parts of the pass say of columns in one list of cells. Only contracts of parts cite it. Assumes nothing.
 use mathlib.Core.Path.{_≡_}
 use mathlib.Core.Logic.{_⊎_}
 use mathlib.Core.List.{List}

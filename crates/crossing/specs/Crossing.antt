@@ -4,7 +4,7 @@ use Rattle.refusal.specs.Domain.{Where, nowhere, at-container, at-item, Paper, 
 use Rattle.refusal.specs.declared.Answer.{Answer}
 use Rattle.crossing.specs.declared.CAnswer.{CAnswer}
 
--- where: 0 nowhere, 1 the container, 2 the item, line or byte `place`
+-- where: 0 nowhere, 1 the container, 2 the item or line `place`
 abbrev pub whereCode : Where → ℕ
 whereCode nowhere = 0
 whereCode at-container = 1

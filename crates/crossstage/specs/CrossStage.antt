@@ -1,4 +1,4 @@
--- The cross axis in the whole pass: what its parts ask and ensure, by the definitions of the lines and of their items. Assumes nothing.
+-- The cross axis in the whole pass: what its parts ask and ensure, by the definitions of the lines and of their items. Only contracts of parts cite it. Assumes nothing.
 use mathlib.Core.Path.{_≡_}
 use mathlib.Core.List.{List, []}
 use Prim.Native.Nat.{ℕ, _*_, _≤_, _<_}

@@ -12,7 +12,7 @@ use lib.Ieee.{Float, nan, inf, fin, binary64, isNan, neg, ofBits}
 use lib.Ieee.Exact.{HasValue}
 use Rattle.grid.specs.Grid.{Length, sixtyFourths, signed}
 use Rattle.grid.proofs.Meaning.{at-of-grid}
-use Rattle.refusal.specs.Marks.{sumUpTo}
+use Rattle.grid.specs.Floats.{sumUpTo}
 use Rattle.breaklimit.specs.declared.AvailableSpace.{AvailableSpace}
 use Rattle.breaklimit.specs.declared.AvailableSpace.the-variants.{Definite, MinContent, MaxContent}
 use Rattle.breaking.specs.Breaking.{definite, limitOf}

@@ -1,5 +1,5 @@
--- What the parts of a round work out, for the contracts of functions that are no entry points: the sums over a line's cells, what they leave to share
--- out, and a round in two passes. Definitions only. Assumes nothing.
+-- What the parts of a round work out: the sums over a line's cells, what they leave to share out, and a round in two passes. Only contracts of parts
+-- cite it. Assumes nothing.
 use mathlib.Core.Path.{_≡_}
 use mathlib.Core.Bool.{Bool, cond}
 use mathlib.Core.List.{List}

@@ -12,7 +12,7 @@ use lib.Seq.{ext-getD, take-add}
 use lib.IntN.{ℤ, pos}
 use lib.Ieee.{Float}
 use borrow.Author.Tests.{ltb-true, ltb-false}
-use Rattle.refusal.specs.Marks.{sumUpTo}
+use Rattle.grid.specs.Floats.{sumUpTo}
 use Rattle.flexing.specs.declared.Item.{Item}
 use Rattle.flexlaws.proofs.Determined.{same-answer}
 use Rattle.flexlines.specs.Lines.{lineStart, lineItems, part, Beyond, FlexedLines}

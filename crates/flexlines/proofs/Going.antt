@@ -11,11 +11,10 @@ use lib.IntN.{ℤ, pos}
 use lib.Ieee.{Float}
 use borrow.Author.Count.{below-none, below-more}
 use borrow.Rule.Slice.PartMut.{midOf, putMid, postOf, same-len-mid, mid-len, take-put, drop-put}
-use Rattle.refusal.specs.Marks.{sumUpTo}
+use Rattle.grid.specs.Floats.{sumUpTo, each}
 use Rattle.refusal.proofs.Sweep.{sum-none, sum-more}
 use Rattle.flexing.specs.declared.Item.{Item}
 use Rattle.flexing.specs.Flex.{outerSum, Flexed, targets as targetsOf}
-use Rattle.grid.specs.Floats.{each}
 use Rattle.flexing.specs.Accepted.{Accepted}
 use Rattle.itemtable.specs.Table.{itemIn, itemsIn, Wide}
 use Rattle.flexlines.specs.Lines.{lineStart, lineItems, part, Beyond, FlexedLines}

@@ -1,5 +1,5 @@
--- What the contracts of functions that are no entry points cite of many lines: what their loop asks, and what it gives before the cells past
--- the last line are cleared. Definitions only. Assumes nothing.
+-- Many lines: what their loop asks, and what it gives before the cells past the last line are cleared. Only contracts of parts cite it. Assumes
+-- nothing.
 use mathlib.Core.Path.{_≡_}
 use mathlib.Core.List.{List, []}
 use Prim.Native.Nat.{ℕ, _≤_, _<_}
@@ -7,7 +7,7 @@ use lib.ListN.{length, getD, drop}
 use lib.IntN.{ℤ, pos}
 use lib.Ieee.{Float}
 use Rattle.grid.specs.Grid.{Length}
-use Rattle.refusal.specs.Marks.{sumUpTo}
+use Rattle.grid.specs.Floats.{sumUpTo}
 use Rattle.flexing.specs.declared.Item.{Item}
 use Rattle.flexing.specs.Flex.{Flexed, outerSum}
 use Rattle.itemtable.specs.Table.{itemsIn, Wide, Tabled}

@@ -1,4 +1,4 @@
--- A call's items in one table of numbers. What the contracts of functions that are no entry points cite. Definitions only. Assumes nothing.
+-- A call's items in one table of numbers. Only contracts of parts cite it. Assumes nothing.
 use mathlib.Core.Path.{_≡_}
 use mathlib.Core.List.{List}
 use Prim.Native.Nat.{ℕ, _+_, _*_, _≤_, _<_}

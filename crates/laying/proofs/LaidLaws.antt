@@ -24,7 +24,8 @@ use Rattle.container.specs.Columns.{column, mainLists, zeros, mainItems}
 use Rattle.container.specs.Container.{limitOf, reversed}
 use Rattle.container.specs.Stages.{Listed}
 use Rattle.passchecks.proofs.Taken.{number-length}
-use Rattle.breakstage.specs.BreakStage.{modeOf, Broken}
+use Rattle.wrapping.specs.Wrapping.{modeOf}
+use Rattle.breakstage.specs.BreakStage.{Broken}
 use Rattle.breakstage.proofs.BreakLaws.{divides-of}
 use Rattle.mainstage.specs.Stage as main
 use Rattle.laying.specs.Laid.{lent, Laid}

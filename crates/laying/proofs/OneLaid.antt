@@ -31,7 +31,7 @@ use Rattle.container.specs.Container.{limitOf, reversed, crossAxis}
 use Rattle.container.specs.Stages.{Listed}
 use Rattle.container.proofs.ColumnLaws.{before, length-column}
 use Rattle.passchecks.proofs.Taken.{number-length}
-use Rattle.breakstage.specs.BreakStage.{modeOf}
+use Rattle.wrapping.specs.Wrapping.{modeOf}
 use Rattle.breakstage.proofs.BreakLaws.{wrapped-divides}
 use Rattle.laying.specs.Laid.{Lent, lent, Laid}
 

@@ -8,6 +8,7 @@ use Rattle.grid.specs.Grid.{cleaned}
 use Rattle.flexing.specs.Items.{itemAt, itemsOf}
 use Rattle.flexlines.specs.Lines.{FlexedLines}
 use Rattle.wrapping.specs.Wrapping as wrapping
+use Rattle.wrapping.specs.Wrapping.{modeOf}
 use Rattle.wrapping.specs.Outer.{outerSizes}
 use Rattle.align.specs.Align.{contentOf}
 use Rattle.linesize.specs.Container.{wrapOf, isReversed}
@@ -19,7 +20,6 @@ use Rattle.crosslines.specs.Cross.{AcrossLines}
 use Rattle.container.specs.declared.Container.{Container}
 use Rattle.container.specs.Columns.{column, zeros, mainLists, mainItems, crossItems, alignSelf, autoSize}
 use Rattle.container.specs.Container.{limitOf, reversed, crossAxis}
-use Rattle.breakstage.specs.BreakStage.{modeOf}
 
 -- ---- the lent lists
 

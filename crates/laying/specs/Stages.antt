@@ -1,4 +1,4 @@
--- What the stages of an accepted run ask and ensure; no contract of an entry point cites this file. Assumes nothing.
+-- What the stages of an accepted run ask and ensure. Only contracts of parts cite it. Assumes nothing.
 use mathlib.Core.List.{List}
 use Prim.Native.Nat.{ℕ, _*_, _≤_}
 use lib.ListN.{length, take}

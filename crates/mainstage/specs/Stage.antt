@@ -1,4 +1,4 @@
--- The main axis of the whole pass: what it asks, and what it gives, by the definitions of flexing and of the main axis. Assumes nothing.
+-- The main axis of the whole pass: what it asks, and what it gives, by the definitions of flexing and of the main axis. Only contracts of parts cite it. Assumes nothing.
 use mathlib.Core.Path.{_≡_}
 use mathlib.Core.List.{List}
 use Prim.Native.Nat.{ℕ, _*_, _≤_}

@@ -1,4 +1,4 @@
--- A question asked of every item of a list. Assumes nothing.
+-- A question asked of every item of a list. Only contracts of parts cite it. Assumes nothing.
 use mathlib.Core.Bool.{Bool, true, _&&_}
 use Prim.Native.Nat.{ℕ, zero, suc}
 

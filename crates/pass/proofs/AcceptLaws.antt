@@ -40,7 +40,7 @@ use Rattle.container.specs.Stages.{Listed}
 use Rattle.passchecks.specs.Checks.{containerNumbers, passInput, passSum, passVerdict}
 use Rattle.passchecks.proofs.Taken.{number-length}
 use Rattle.passchecks.proofs.Rooms.{Roomy, roomy-of}
-use Rattle.breakstage.specs.BreakStage.{modeOf}
+use Rattle.wrapping.specs.Wrapping.{modeOf}
 use Rattle.laying.specs.Laid.{Lent}
 use Rattle.laying.specs.Stages.{Accepted}
 use Rattle.pass.specs.declared.PassAnswer.{PassAnswer}

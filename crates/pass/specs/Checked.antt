@@ -1,4 +1,4 @@
--- What a part of the pass asks; no contract of an entry point cites this file. Assumes nothing.
+-- What checks 1 to 5 show of a pass. Only contracts of parts cite it. Assumes nothing.
 use mathlib.Core.Path.{_≡_}
 use mathlib.Core.List.{List}
 use Prim.Native.Nat.{ℕ}

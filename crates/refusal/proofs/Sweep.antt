@@ -2,7 +2,8 @@
 use mathlib.Core.Path.{_≡_, refl, ap}
 use Prim.Native.Nat.{ℕ, _+_, min}
 use native.Mathlib.Numerals.{add-one}
-use Rattle.refusal.specs.Marks.{leastUpTo, sumUpTo}
+use Rattle.grid.specs.Floats.{sumUpTo}
+use Rattle.refusal.specs.Marks.{leastUpTo}
 
 pub least-none : (f : ℕ → ℕ) → leastUpTo f 0 ≡ 6144
 unfolding leastUpTo

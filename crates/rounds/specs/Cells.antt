@@ -1,4 +1,4 @@
--- What the contracts of functions that are no entry points cite: a line's items with their frozen marks and targets. Definitions only. Assumes nothing.
+-- A line's items with their frozen marks and targets. Only contracts of parts cite it. Assumes nothing.
 use mathlib.Core.Path.{_≡_}
 use mathlib.Core.Bool.{Bool, false}
 use mathlib.Core.List.{List}

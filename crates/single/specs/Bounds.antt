@@ -1,4 +1,4 @@
--- The table of kinds that the code goes by, and the question that it asks of a number first. Assumes nothing.
+-- The table of kinds that the code goes by, and the question that it asks of a number first. Only contracts of parts cite it. Assumes nothing.
 use mathlib.Core.Bool.{Bool, true, false, not, _||_}
 use Prim.Native.Nat.{ℕ}
 use lib.IntN.{pos}

@@ -12,7 +12,7 @@ use lib.Ieee.{Float}
 use mir.Syntax.{w32}
 use mir.Val.{Fits}
 use Rattle.grid.specs.Grid.{sixtyFourths}
-use Rattle.refusal.specs.Marks.{sumUpTo}
+use Rattle.grid.specs.Floats.{sumUpTo}
 use Rattle.breaklimit.specs.declared.AvailableSpace.{AvailableSpace}
 use Rattle.breaking.specs.Breaking.{Limit, limitOf, greedy}
 use Rattle.breaking.specs.Calls.{units, written}

@@ -12,13 +12,12 @@ use lib.IntN.{ℤ, pos, natAbs}
 use lib.Ieee.{Float, nan}
 use Rattle.grid.specs.Grid.{At, Length, sixtyFourths}
 use Rattle.grid.proofs.Meaning.{grid-of-at}
-use Rattle.refusal.specs.Marks.{sumUpTo}
+use Rattle.grid.specs.Floats.{sumUpTo, each}
 use Rattle.breaklimit.specs.declared.AvailableSpace.{AvailableSpace}
 use Rattle.breaking.specs.Calls.{units}
 use Rattle.breaking.specs.Steps.{LengthLimit, Breakable}
 use Rattle.flexing.specs.declared.Item.{Item}
 use Rattle.flexing.specs.Flex.{outer, hypothetical, outerUnits, outerSum}
-use Rattle.grid.specs.Floats.{each}
 use Rattle.flexing.specs.Accepted.{Measured}
 use Rattle.itemtable.specs.Table.{itemIn, itemsIn, Tabled}
 use Rattle.itemtable.proofs.Each.{length-each, map-each, each-ext, outer-none, outer-snoc}

@@ -1,7 +1,9 @@
 -- The lines of a container by its wrap mode (document 01, "Breaking"), and the lists that breaking is lent. Definitions only. Assumes nothing.
 use mathlib.Core.Path.{_≡_}
+use mathlib.Core.Bool.{cond}
 use mathlib.Core.List.{List, [], _∷_}
 use Prim.Native.Nat.{ℕ, zero, suc, _+_, _*_, _≤_}
+use lib.Dec.{eqb, ltb}
 use lib.ListN.{length}
 use lib.Ieee.{Float}
 use Rattle.grid.specs.Grid.{sixtyFourths}
@@ -12,6 +14,10 @@ use Rattle.rule.specs.Rule as rule
 use Rattle.balance.specs.Calls.{zeroed, zeroedF}
 use Rattle.wrapping.specs.declared.Mode.{Mode}
 use Rattle.wrapping.specs.declared.Mode.the-variants.{Single, Greedy, Balanced}
+
+-- nowrap; wrap and wrap-reverse; balance and balance-reverse
+abbrev pub modeOf : ℕ → Mode
+modeOf wrap = cond (eqb wrap 0) Single (cond (ltb wrap 3) Greedy Balanced)
 
 -- "n = 0 gives no lines"; "a single-line container is one line whatever the limit"
 abbrev pub oneLine : ℕ → List ℕ

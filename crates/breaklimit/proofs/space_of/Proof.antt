@@ -1,4 +1,4 @@
--- `breaking::space_of` meets its contract, by the three kinds. Assumes nothing.
+-- `breaklimit::space_of` meets its contract, by the three kinds. Assumes nothing.
 use mathlib.Core.Path.{_≡_, refl, sym, ap}
 use Prim.Native.Nat.{ℕ, zero, suc}
 use lib.Ieee.{Float}

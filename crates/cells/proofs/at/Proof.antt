@@ -1,4 +1,4 @@
--- `choice::cells::at` meets its contract: the cell is read in range, and a u32 fits a usize. Assumes nothing.
+-- `cells::at` meets its contract: the cell is read in range, and a u32 fits a usize. Assumes nothing.
 use native.Mathlib.Omega.{arith}
 use borrow.Author.Needs.{needs}
 use Rattle.cells.proofs.at.Statement.{statement}

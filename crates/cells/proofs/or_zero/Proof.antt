@@ -1,4 +1,4 @@
--- `choice::cells::or_zero` meets its contract: past the last cell a list reads as 0. Assumes nothing.
+-- `cells::or_zero` meets its contract: past the last cell a list reads as 0. Assumes nothing.
 use mathlib.Core.Path.{sym}
 use lib.ListN.{List·getD-eq-default}
 use borrow.Author.Needs.{needs}

@@ -9,7 +9,8 @@ use lib.IntN.{ℤ, natAbs}
 use lib.ListN.{length, getD}
 use lib.Ieee.{Float, nan}
 use Rattle.grid.specs.Grid.{Length, sixtyFourths}
-use Rattle.refusal.specs.Marks.{sumUpTo, Lengths}
+use Rattle.grid.specs.Floats.{sumUpTo}
+use Rattle.refusal.specs.Marks.{Lengths}
 use Rattle.refusal.proofs.Sweep.{sum-none, sum-more}
 use Rattle.marking.proofs.sum_floats.Statement.{statement}
 use Rattle.marking.proofs.sum_floats.Tie as tie

@@ -1,4 +1,4 @@
--- `choice::sums::base` meets its contract: by what `before` gives. Assumes nothing.
+-- `cells::sums::base` meets its contract: by what `before` gives. Assumes nothing.
 use borrow.Author.Needs.{needs}
 use Rattle.cells.proofs.sums.base.Statement.{statement}
 use Rattle.cells.proofs.sums.base.Tie as tie

@@ -1,4 +1,4 @@
--- `choice::sums::before` meets its contract: by whether there is an item before. Assumes nothing.
+-- `cells::sums::before` meets its contract: by whether there is an item before. Assumes nothing.
 use borrow.Author.Needs.{needs}
 use Rattle.cells.proofs.SumsLaws.{before-zero, before-pos}
 use Rattle.cells.proofs.sums.before.Statement.{statement}

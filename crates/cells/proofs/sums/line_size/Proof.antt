@@ -1,4 +1,4 @@
--- `choice::sums::line_size` meets its contract: by what `before` gives. Assumes nothing.
+-- `cells::sums::line_size` meets its contract: by what `before` gives. Assumes nothing.
 use borrow.Author.Needs.{needs}
 use Rattle.cells.proofs.sums.line_size.Statement.{statement}
 use Rattle.cells.proofs.sums.line_size.Tie as tie
