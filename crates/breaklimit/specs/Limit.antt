@@ -2,6 +2,7 @@
 use mathlib.Core.Bool.{Bool, cond, _||_}
 use mathlib.Core.List.{List, [], _∷_, _++_}
 use Prim.Native.Nat.{ℕ, zero, suc}
+use lib.Dec.{eqb}
 use lib.Ieee.{Float}
 use Rattle.grid.specs.Grid.{cleaned}
 use Rattle.grid.specs.Floats.{lowered, raised}
@@ -24,6 +25,10 @@ abbrev pub spaceOf : ℕ → Float → AvailableSpace
 spaceOf zero x = Definite x
 spaceOf (suc zero) x = MinContent
 spaceOf (suc (suc k)) x = MaxContent
+
+-- a minimum or maximum under code 1; under any other its number is not taken
+abbrev pub boundOf : ℕ → Float → Bound
+boundOf given x = cond (eqb given 1) (Given x) Absent
 
 -- "raise it to the minimum if given"
 abbrev pub raisedTo : Bound → Float → Float

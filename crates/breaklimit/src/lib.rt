@@ -3,7 +3,7 @@ ghost use mathlib.Core.Path.{_≡_};
 ghost use mathlib.Core.List.{List};
 ghost use Rattle.refusal.specs.Domain.{Number};
 ghost use Rattle.refusal.specs.Marks.{leastOf};
-ghost use Rattle.breaklimit.specs.Limit.{spaceOf, raisedTo, numberOr, underMaximum, keepsSpace, withoutMaximum, byMaximum, breakLimit, spaceNumbers, boundNumbers, limitVerdict, limitCall};
+ghost use Rattle.breaklimit.specs.Limit.{spaceOf, boundOf, raisedTo, numberOr, underMaximum, keepsSpace, withoutMaximum, byMaximum, breakLimit, spaceNumbers, boundNumbers, limitVerdict, limitCall};
 use grid::floats::lower;
 use grid::floats::raise;
 use refusal::Kind;
@@ -50,6 +50,16 @@ pub fn space_of(kind: u32, limit: f32) -> AvailableSpace
         return AvailableSpace::MinContent;
     }
     AvailableSpace::MaxContent
+}
+
+// The bound that a code and a number say, as hosts say it. A code above 1 is refused before.
+pub fn bound_of(given: u32, x: f32) -> Bound
+    ensures { λ r. ⌜ r ≡ boundOf given x ⌝ }
+{
+    if given == 1 {
+        return Bound::Given(x);
+    }
+    Bound::Absent
 }
 
 pub fn raise_to(minimum: Bound, x: f32) -> f32

@@ -6,10 +6,12 @@ use lib.IntN.{pos}
 use lib.ListN.{getD}
 use lib.Ieee.{Float, nan, fin, binary64, add, sub}
 
+-- the sum of the items before s, each with its gap
 abbrev pub beforeF : List Float → ℕ → Float
 beforeF sums zero = fin false 0 (pos 0)
 beforeF sums (suc i) = getD sums i nan
 
+-- the size of the line of the items from s to e
 abbrev pub sizeF : List Float → Float → ℕ → ℕ → Float
 sizeF sums gap s e = sub binary64 (sub binary64 (getD sums e nan) (beforeF sums s)) gap
 

@@ -1,4 +1,5 @@
-// Sums of the items, and the sizes of lines from them. Everything here counts whole sixty-fourths, held exactly in an `f64`.
+// Sums of the items, and the sizes of lines from them. Everything here counts whole sixty-fourths, held exactly in an `f64`. No entry
+// points.
 ghost use Prim.Native.Nat.{_≤_, _<_};
 ghost use lib.ListN.{length};
 ghost use Rattle.cells.specs.Sums.{beforeF, sizeF, baseF};

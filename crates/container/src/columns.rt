@@ -1,4 +1,4 @@
-// Lists of n cells one after another in one list: list k starts at cell k * n.
+// Lists of n cells one after another in one list: list k starts at cell k * n. No entry points.
 ghost use mathlib.Core.Path.{_≡_};
 ghost use Prim.Native.Nat.{_+_};
 ghost use lib.ListN.{length};

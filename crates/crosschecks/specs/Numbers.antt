@@ -1,5 +1,4 @@
 -- The cross axis in numbers: how the container's are read, and what a call checks of them and of a line's items. Assumes nothing.
-use mathlib.Core.Bool.{cond}
 use mathlib.Core.List.{List, [], _∷_, _++_}
 use Prim.Native.Nat.{ℕ}
 use lib.Dec.{eqb}
@@ -9,18 +8,13 @@ use Rattle.refusal.specs.Domain.{Number, float, code}
 use Rattle.refusal.specs.Optional.{optional}
 use Rattle.refusal.specs.Lists.{floatAt, codeAt, besideAt}
 use Rattle.refusal.specs.declared.Kind.the-variants.{Size, Margin}
-use Rattle.breaklimit.specs.declared.Bound.{Bound}
-use Rattle.breaklimit.specs.declared.Bound.the-variants.{Absent, Given}
+use Rattle.breaklimit.specs.Limit.{boundOf}
 use Rattle.linesize.specs.declared.container.Cross.{Cross}
 use Rattle.crosschecks.specs.declared.numbers.CrossNumbers.{CrossNumbers}
 use Rattle.linesize.specs.Container.{wrapOf}
 use Rattle.linesize.specs.CrossSize.{Items}
 
 -- ---- the container
-
--- a number under code 1; under any other it is not taken
-abbrev pub boundOf : ℕ → Float → Bound
-boundOf given x = cond (eqb given 1) (Given x) Absent
 
 unfoldable pub crossOf : CrossNumbers → Cross
 crossOf c = record { inner = boundOf (c .«has_inner») (c .inner); minimum = boundOf (c .«has_minimum») (c .minimum); maximum = boundOf (c .«has_maximum») (c .maximum); gap = c .gap; wrap = wrapOf (c .wrap) }

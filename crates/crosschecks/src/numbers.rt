@@ -3,8 +3,8 @@ ghost use mathlib.Core.Path.{_≡_};
 ghost use mathlib.Core.List.{List};
 ghost use Rattle.refusal.specs.Domain.{Number};
 ghost use Rattle.refusal.specs.Marks.{leastOf};
-ghost use Rattle.crosschecks.specs.Numbers.{boundOf, crossOf, boundNumbers, boundsNumbers, crossNumbers, sizingNumbers};
-use breaklimit::Bound;
+ghost use Rattle.crosschecks.specs.Numbers.{crossOf, boundNumbers, boundsNumbers, crossNumbers, sizingNumbers};
+use breaklimit::bound_of;
 use linesize::container;
 use linesize::container::Cross;
 use refusal::Kind;
@@ -24,15 +24,6 @@ pub struct CrossNumbers {
     pub has_maximum: u32,
     pub gap: f32,
     pub wrap: u32,
-}
-
-fn bound_of(given: u32, x: f32) -> Bound
-    ensures { λ r. ⌜ r ≡ boundOf given x ⌝ }
-{
-    if given == 1 {
-        return Bound::Given(x);
-    }
-    Bound::Absent
 }
 
 pub fn cross_of(c: CrossNumbers) -> Cross

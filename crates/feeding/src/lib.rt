@@ -126,7 +126,8 @@ fn step(r: Reader, byte: u8, sizes: &mut [f32; 64]) -> Reader
     advance(r, pending, found)
 }
 
-// Takes the next bytes of a capture. What bursts they come in makes no difference. It asks for a reader that came from `start` and `feed`.
+// Takes the next bytes of a capture. What bursts they come in makes no difference. It asks for a reader that came from `start` and `feed`,
+// and is no entry point.
 pub fn feed(from: Reader, burst: &[u8], sizes: &mut [f32; 64]) -> Reader
     requires { ⌜ Ready from (length (now burst)) ⌝ }
     ensures { λ r. ⌜ withSizes r (now (sizes .exit)) ≡ fed (withSizes from (now (sizes .entry))) (now (burst .entry)) ⌝ }

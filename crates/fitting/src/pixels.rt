@@ -1,4 +1,4 @@
-// From pixels to whole sixty-fourths, held exactly in an `f64`, and their sums.
+// From pixels to whole sixty-fourths, held exactly in an `f64`, and their sums. No entry points.
 ghost use mathlib.Core.Path.{_≡_};
 ghost use mathlib.Core.Bool.{not};
 ghost use Prim.Native.Nat.{ℕ, _≤_, _<_};

@@ -1,4 +1,4 @@
-// The grid of lengths: whole multiples of 1/64 of a pixel (document 01, "Domain and refusal numbers").
+// The grid of lengths: whole multiples of 1/64 of a pixel (document 01, "Domain and refusal numbers"). No entry points.
 ghost use mathlib.Core.Path.{_≡_};
 ghost use Prim.Native.Nat.{_≤_};
 ghost use lib.IntN.{natAbs};

@@ -1,4 +1,5 @@
 // The items of a call in one table of numbers, eight cells for each item and one item after another, so that every step of flexing takes one list.
+// No entry points.
 ghost use mathlib.Core.Path.{_≡_};
 ghost use Prim.Native.Nat.{_+_, _*_, _<_};
 ghost use mathlib.Core.Bool.{cond, false};
@@ -12,7 +13,7 @@ use flexing::Item;
 
 pub mod sum; // sum.rt: check 6, of a table's items
 
-// Item i. No entry point: it asks for a place in the table.
+// Item i.
 pub fn pick(table: &[f32], i: usize) -> Item
     requires { ⌜ Wide (now table) (i + 1) ⌝ }
     ensures { λ r. ⌜ r ≡ itemIn (now (table .entry)) i ⌝ }
@@ -76,7 +77,7 @@ fn infinity() -> f32
     1.0 / 0.0
 }
 
-// The items of the lists of a call. No entry point: it asks for lists of one length.
+// The items of the lists of a call.
 pub fn read_items<'a>(
     base: &'a [f32],
     minimum: &'a [f32],

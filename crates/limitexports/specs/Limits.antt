@@ -1,5 +1,5 @@
 -- The break limit as it crosses to C: codes for what is an enum inside, and the exported call as the call inside it. Assumes nothing.
-use mathlib.Core.Bool.{Bool, true, false}
+use mathlib.Core.Bool.{Bool}
 use mathlib.Core.List.{List, [], _∷_}
 use Prim.Native.Nat.{ℕ}
 use lib.Dec.{eqb}
@@ -7,24 +7,18 @@ use lib.Ieee.{Float, binary32, ofBits}
 use Rattle.refusal.specs.Domain.{Number, code, refusalOf}
 use Rattle.breaklimit.specs.declared.AvailableSpace.{AvailableSpace}
 use Rattle.breaklimit.specs.declared.AvailableSpace.the-variants.{Definite, MinContent, MaxContent}
-use Rattle.breaklimit.specs.declared.Bound.{Bound}
-use Rattle.breaklimit.specs.declared.Bound.the-variants.{Absent, Given}
 use Rattle.breaklimit.specs.declared.Query.{Query}
 use Rattle.breaklimit.specs.declared.BreakLimit.{BreakLimit}
 use Rattle.breaklimit.specs.declared.BreakLimit.the-variants.{Limit}
 use Rattle.breaklimit.specs.declared.BreakLimit.the-variants as limit
-use Rattle.breaklimit.specs.Limit.{spaceOf, limitVerdict, limitFrom}
+use Rattle.breaklimit.specs.Limit.{spaceOf, boundOf, limitVerdict, limitFrom}
 use Rattle.crossing.specs.declared.CAnswer.{CAnswer}
 use Rattle.crossing.specs.Crossing.{crossed}
 use Rattle.limitexports.specs.declared.CLimit.{CLimit}
 
--- a flag is 0 or 1; what stands beside a flag that is not 1 is not read
+-- a flag is 0 or 1
 abbrev pub flag : ℕ → Bool
 flag c = eqb c 1
-
-abbrev pub boundOf : Bool → Float → Bound
-boundOf true x = Given x
-boundOf false x = Absent
 
 -- what C hands over, in its order
 pub record Asked : Type 0 where
@@ -47,8 +41,8 @@ queryOf a = record {
   «main_is_definite» = flag (a .main);
   «is_row» = flag (a .row);
   available = spaceOf (a .kind) (a .available);
-  minimum = boundOf (flag (a .low)) (a .minimum);
-  maximum = boundOf (flag (a .high)) (a .maximum);
+  minimum = boundOf (a .low) (a .minimum);
+  maximum = boundOf (a .high) (a .maximum);
 }
 
 -- a limit as it crosses: its kind, and its number where it is definite

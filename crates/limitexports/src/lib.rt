@@ -4,10 +4,10 @@ ghost use mathlib.Core.Path.{_≡_};
 ghost use lib.Ieee.{Float};
 ghost use Rattle.breaklimit.specs.Limit.{limitFrom};
 ghost use Rattle.refusal.specs.Marks.{leastOf};
-ghost use Rattle.limitexports.specs.Limits.{boundOf, cSpace, cRefused, cLimit, askedCodes, limitFromC};
+ghost use Rattle.limitexports.specs.Limits.{cSpace, cRefused, cLimit, askedCodes, limitFromC};
 use breaklimit::AvailableSpace;
-use breaklimit::Bound;
 use breaklimit::Query;
+use breaklimit::bound_of;
 use breaklimit::space_of;
 use crossing::CAnswer;
 use crossing::refusal_to_c;
@@ -22,16 +22,6 @@ pub struct CLimit {
     pub place: u32,
     pub kind: u32,
     pub limit: f32,
-}
-
-fn bound_of(given: bool, x: f32) -> Bound
-    ensures { λ r. ⌜ r ≡ boundOf given x ⌝ }
-{
-    if given {
-        Bound::Given(x)
-    } else {
-        Bound::Absent
-    }
 }
 
 fn space_to_c(space: AvailableSpace) -> CLimit
@@ -115,8 +105,8 @@ pub extern "C" fn fratolivem_break_limit(
 {
     let codes = mark_codes(known, main, row, kind, low, high);
     let space = space_of(kind, available);
-    let least = bound_of(low == 1, minimum);
-    let most = bound_of(high == 1, maximum);
+    let least = bound_of(low, minimum);
+    let most = bound_of(high, maximum);
     let q = Query {
         known_is_definite: known == 1,
         main_is_definite: main == 1,

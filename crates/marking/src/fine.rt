@@ -1,5 +1,5 @@
 // Whether the numbers of a list are all fine. Each loop goes to the list's end and has no branch inside, so that the compiler takes several
-// numbers at a time.
+// numbers at a time. No entry points.
 ghost use mathlib.Core.Path.{_≡_};
 ghost use mathlib.Core.Bool.{not, _||_};
 ghost use lib.Dec.{eqb, leb};

@@ -1,4 +1,4 @@
-// A line: its free space before flexing, the items that are frozen at first, and the rounds while an item is unfrozen.
+// A line: its free space before flexing, the items that are frozen at first, and the rounds while an item is unfrozen. No entry points.
 ghost use mathlib.Core.Path.{_≡_};
 ghost use mathlib.Core.List.{map};
 ghost use Prim.Native.Nat.{ℕ, _+_, _≤_, _<_};

@@ -1,4 +1,4 @@
-// One round of the loop, steps 4b to 4e, over a line's items and their frozen marks and targets.
+// One round of the loop, steps 4b to 4e, over a line's items and their frozen marks and targets. No entry points.
 ghost use mathlib.Core.Path.{_≡_};
 ghost use mathlib.Core.List.{map};
 ghost use Prim.Native.Nat.{_+_};

@@ -162,7 +162,7 @@ fn put_refused(why: Refusal, out: &mut [u8]) -> usize
     }
 }
 
-// Writes an answer and answers how long it is. For programs to print: it asks for room.
+// Writes an answer and answers how long it is. For programs to print: it asks for room, and is no entry point.
 pub fn spell(reply: Reply, counts: &[u32], out: &mut [u8]) -> usize
     requires { ⌜ 43 + 21 * length (now counts) ≤ length (now out) ⌝ }
     ensures { λ r. ⌜ Put (textOf reply (now (counts .entry))) (now (out .entry)) (now (out .exit)) 0 r ⌝ }

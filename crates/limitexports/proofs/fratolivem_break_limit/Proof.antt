@@ -2,8 +2,8 @@
 use mathlib.Core.Path.{_≡_, ap, ap₂, _∙_}
 use Rattle.refusal.specs.declared.Verdict.{Verdict}
 use Rattle.breaklimit.specs.declared.Query.{Query}
-use Rattle.breaklimit.specs.Limit.{limitFrom, limitVerdict, spaceOf}
-use Rattle.limitexports.specs.Limits.{Asked, askedCodes, queryOf, cLimit, boundOf, flag, limitFromC}
+use Rattle.breaklimit.specs.Limit.{limitFrom, limitVerdict, spaceOf, boundOf}
+use Rattle.limitexports.specs.Limits.{Asked, askedCodes, queryOf, cLimit, flag, limitFromC}
 use Rattle.limitexports.specs.declared.CLimit.{CLimit}
 use Rattle.breaklimit.specs.declared.AvailableSpace.{AvailableSpace}
 use Rattle.breaklimit.specs.declared.Bound.{Bound}
@@ -33,7 +33,7 @@ limit-to-c-requires c κs = search needs
 abbrev with : Asked → AvailableSpace → Bound → Bound → Query
 with a s l m = record { «known_is_definite» = flag (a .known); «main_is_definite» = flag (a .main); «is_row» = flag (a .row); available = s; minimum = l; maximum = m }
 
-made : (a : Asked) (s : AvailableSpace) (l m : Bound) → s ≡ spaceOf (a .kind) (a .available) → l ≡ boundOf (flag (a .low)) (a .minimum) → m ≡ boundOf (flag (a .high)) (a .maximum) → with a s l m ≡ queryOf a
+made : (a : Asked) (s : AvailableSpace) (l m : Bound) → s ≡ spaceOf (a .kind) (a .available) → l ≡ boundOf (a .low) (a .minimum) → m ≡ boundOf (a .high) (a .maximum) → with a s l m ≡ queryOf a
 made a s l m e f g =
     ap (λ (x : AvailableSpace). with a x l m) e
     ∙ ap₂ (λ (x y : Bound). with a (spaceOf (a .kind) (a .available)) x y) f g

@@ -1,7 +1,7 @@
--- `crosschecks::numbers::bound_of` meets its contract: the code's test is the definition's. Assumes nothing.
+-- `breaklimit::bound_of` meets its contract: the code's test is the definition's. Assumes nothing.
 use borrow.Author.Tests.{eq-eqb, ne-eqb}
-use Rattle.crosschecks.proofs.numbers.bound_of.Statement.{statement}
-use Rattle.crosschecks.proofs.numbers.bound_of.Tie as tie
+use Rattle.breaklimit.proofs.bound_of.Statement.{statement}
+use Rattle.breaklimit.proofs.bound_of.Tie as tie
 
 returns : tie.Need-returns
 returns c = rw (eq-eqb _ _ (c .if1 .taken))
