@@ -84,48 +84,16 @@ fratolivem_limit fratolivem_break_limit(uint32_t known_is_definite, uint32_t mai
 fratolivem_answer fratolivem_greedy(uint32_t limit_kind, float limit, float gap, const float *sizes, size_t n,
                                     uint32_t *counts, size_t counts_len);
 
-/* Balanced breaking with its work cells as seven lists: opts n*n, the others n each. All are 0 after acceptance, as far as named. */
-fratolivem_answer fratolivem_balanced_parts(uint32_t limit_kind, float limit, float gap, uint32_t minimum,
-                                            const float *sizes, size_t n, uint32_t *counts, size_t counts_len,
-                                            uint32_t *opts, size_t opts_len, uint32_t *fit, size_t fit_len,
-                                            uint32_t *greedy, size_t greedy_len, uint32_t *reach, size_t reach_len,
-                                            double *sums, size_t sums_len, double *prev, size_t prev_len, double *cur,
-                                            size_t cur_len);
-
 /* The work cells that balanced breaking of n items asks for: none above 1,024 items, which are refused whatever is lent. */
 static inline size_t fratolivem_work_cells(size_t n) { return n > FRATOLIVEM_MOST_ITEMS ? 0 : n * n + 3 * n; }
 static inline size_t fratolivem_sum_cells(size_t n) { return n > FRATOLIVEM_MOST_ITEMS ? 0 : 3 * n; }
 
-/* Takes `want` cells, or what is left, off the front of a list. */
-static inline size_t fratolivem_cut(size_t *left, size_t want) {
-    size_t have = *left < want ? *left : want;
-    *left -= have;
-    return have;
-}
-
 /* Balanced breaking: as many lines as greedy breaking makes, or `minimum` held to 1..n if that is more, with the least sum of the
  * lines' sizes squared, and of equal ones the larger count at the first difference. Negative sizes read as 0.
- * Room: n counts, n*n + 3n cells of work and 3n of sums. Those work cells may hold any bits before and are 0 after acceptance.
- *
- * This only cuts the two lists into the parts of the call above, a short list into short parts: all checks are made there. */
-static inline fratolivem_answer fratolivem_balanced(uint32_t limit_kind, float limit, float gap, uint32_t minimum,
-                                                    const float *sizes, size_t n, uint32_t *counts, size_t counts_len,
-                                                    uint32_t *work, size_t work_len, double *sums, size_t sums_len) {
-    /* Above the most items no part is needed, since check 1 comes before check 2, and n*n might not be a size_t. */
-    const size_t m = n > FRATOLIVEM_MOST_ITEMS ? 0 : n;
-    size_t work_left = work_len, sums_left = sums_len;
-    const size_t opts_len = fratolivem_cut(&work_left, m * m), fit_len = fratolivem_cut(&work_left, m),
-                 greedy_len = fratolivem_cut(&work_left, m), reach_len = fratolivem_cut(&work_left, m);
-    const size_t add_len = fratolivem_cut(&sums_left, m), prev_len = fratolivem_cut(&sums_left, m),
-                 cur_len = fratolivem_cut(&sums_left, m);
-    /* A part that begins at cell 0 is the list itself: nothing is added to a NULL. */
-    uint32_t *fit = opts_len ? work + opts_len : work, *greedy = fit_len ? fit + fit_len : fit,
-             *reach = greedy_len ? greedy + greedy_len : greedy;
-    double *prev = add_len ? sums + add_len : sums, *cur = prev_len ? prev + prev_len : prev;
-    return fratolivem_balanced_parts(limit_kind, limit, gap, minimum, sizes, n, counts, counts_len, work, opts_len, fit,
-                                     fit_len, greedy, greedy_len, reach, reach_len, sums, add_len, prev, prev_len, cur,
-                                     cur_len);
-}
+ * Room: n counts, n*n + 3n cells of work and 3n of sums. Those work cells may hold any bits before and are 0 after acceptance. */
+fratolivem_answer fratolivem_balanced(uint32_t limit_kind, float limit, float gap, uint32_t minimum, const float *sizes,
+                                      size_t n, uint32_t *counts, size_t counts_len, uint32_t *work, size_t work_len,
+                                      double *sums, size_t sums_len);
 
 /* ---- flexing: CSS-FLEX 9.7, the free space of a line shared out over its items */
 

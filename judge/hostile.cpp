@@ -118,9 +118,9 @@ Lent<float> in_floats[9] = {Lent<float>(most), Lent<float>(most), Lent<float>(mo
                             Lent<float>(most), Lent<float>(most), Lent<float>(most), Lent<float>(most)};
 Lent<uint32_t> in_codes[5] = {Lent<uint32_t>(most), Lent<uint32_t>(most), Lent<uint32_t>(most), Lent<uint32_t>(most), Lent<uint32_t>(most)};
 Lent<float> out_floats[3] = {Lent<float>(9 * most), Lent<float>(3 * most), Lent<float>(most)};
-Lent<uint32_t> out_codes[5] = {Lent<uint32_t>(1024 * 1024 + 5 * most), Lent<uint32_t>(most), Lent<uint32_t>(most), Lent<uint32_t>(most), Lent<uint32_t>(most)};
+Lent<uint32_t> out_codes[3] = {Lent<uint32_t>(1024 * 1024 + 5 * most), Lent<uint32_t>(most), Lent<uint32_t>(most)};
 Lent<int32_t> out_ints(most);
-Lent<double> out_doubles[3] = {Lent<double>(4 * most), Lent<double>(most), Lent<double>(most)};
+Lent<double> out_doubles(4 * most);
 
 // Whether the first `named` cells may have changed, and nothing else has.
 template <class T>
@@ -191,43 +191,17 @@ void try_balanced(Draw &draw) {
     const BreakingCall b = breaking_call(draw);
     const std::size_t n = b.sizes.size(), m = n > 1024 ? 0 : n;
     in_floats[0].lend(b.sizes, any_stand()), out_codes[1].lend(room(n), any_stand());
-    out_codes[0].lend(room(m * m + 3 * m), any_stand()), out_doubles[0].lend(room(3 * m), any_stand());
+    out_codes[0].lend(room(m * m + 3 * m), any_stand()), out_doubles.lend(room(3 * m), any_stand());
     const auto a = fratolivem_balanced(b.kind, b.limit, b.gap, b.minimum, in_floats[0].data(), n, out_codes[1].data(), out_codes[1].size(),
-                                       out_codes[0].data(), out_codes[0].size(), out_doubles[0].data(), out_doubles[0].size());
+                                       out_codes[0].data(), out_codes[0].size(), out_doubles.data(), out_doubles.size());
     const std::string line = Text("balanced").u(b.kind).f(b.limit).f(b.gap).u(b.minimum).list(b.sizes).u(out_codes[1].size())
-                                 .u(out_codes[0].size()).u(out_doubles[0].size()).answered(a.number, a.where, a.place);
+                                 .u(out_codes[0].size()).u(out_doubles.size()).answered(a.number, a.where, a.place);
     const bool ok = a.number == 0;
-    expect(in_floats[0].kept() && kept(out_codes[1], ok, n) && kept(out_codes[0], ok, m * m + 3 * m) && kept(out_doubles[0], ok, 3 * m),
+    expect(in_floats[0].kept() && kept(out_codes[1], ok, n) && kept(out_codes[0], ok, m * m + 3 * m) && kept(out_doubles, ok, 3 * m),
            "other cells were changed", line);
     expect(!ok || n > 100 || divided(b, true, a.lines), "the answer is not the model's", line);
-    expect(!ok || (out_codes[0].zero_up_to(m * m + 3 * m) && out_doubles[0].zero_up_to(3 * m)), "work cells are not 0", line);
+    expect(!ok || (out_codes[0].zero_up_to(m * m + 3 * m) && out_doubles.zero_up_to(3 * m)), "work cells are not 0", line);
     expect(ok || (a.lines == 0 && a.rounds == 0), "a refusal has lines or rounds", line);
-}
-
-void try_parts(Draw &draw) {
-    const BreakingCall b = breaking_call(draw);
-    const std::size_t n = b.sizes.size(), m = n > 1024 ? 0 : n;
-    in_floats[0].lend(b.sizes, any_stand());
-    out_codes[0].lend(room(m * m), any_stand());
-    for (int i = 1; i < 5; i++) out_codes[i].lend(room(n), any_stand());
-    for (auto &list : out_doubles) list.lend(room(n), any_stand());
-    const auto a = fratolivem_balanced_parts(
-        b.kind, b.limit, b.gap, b.minimum, in_floats[0].data(), n, out_codes[1].data(), out_codes[1].size(), out_codes[0].data(),
-        out_codes[0].size(), out_codes[2].data(), out_codes[2].size(), out_codes[3].data(), out_codes[3].size(), out_codes[4].data(),
-        out_codes[4].size(), out_doubles[0].data(), out_doubles[0].size(), out_doubles[1].data(), out_doubles[1].size(),
-        out_doubles[2].data(), out_doubles[2].size());
-    Text text("balanced_parts");
-    text.u(b.kind).f(b.limit).f(b.gap).u(b.minimum).list(b.sizes).u(out_codes[1].size()).u(out_codes[0].size());
-    for (int i = 2; i < 5; i++) text.u(out_codes[i].size());
-    for (auto &list : out_doubles) text.u(list.size());
-    const std::string line = text.answered(a.number, a.where, a.place);
-    const bool ok = a.number == 0;
-    bool same = in_floats[0].kept() && kept(out_codes[0], ok, m * m), zero = !ok || out_codes[0].zero_up_to(m * m);
-    for (int i = 1; i < 5; i++) same = same && kept(out_codes[i], ok, n), zero = zero && (i == 1 || !ok || out_codes[i].zero_up_to(n));
-    for (auto &list : out_doubles) same = same && kept(list, ok, n), zero = zero && (!ok || list.zero_up_to(n));
-    expect(same, "other cells were changed", line);
-    expect(!ok || n > 100 || divided(b, true, a.lines), "the answer is not the model's", line);
-    expect(zero, "work cells are not 0", line);
 }
 
 // ---- calls on lists by item
@@ -539,22 +513,22 @@ void run_pass(const Case &c) {
     out_floats[0].lend(room(named.placed), any_stand()), out_floats[1].lend(room(named.lines), any_stand());
     out_codes[1].lend(room(n), any_stand()), out_codes[2].lend(room(n), any_stand()), out_ints.lend(room(n), any_stand());
     const bool none = !c.container.balanced() && one_in(2);
-    out_codes[0].lend(none ? 0 : room(named.work), any_stand()), out_doubles[0].lend(none ? 0 : room(named.sums), any_stand());
+    out_codes[0].lend(none ? 0 : room(named.work), any_stand()), out_doubles.lend(none ? 0 : room(named.sums), any_stand());
     const auto *records = reinterpret_cast<const fratolivem_item *>(in_items.data());
     const auto a = fratolivem_pass(recast<fratolivem_container>(c.container), records, n, out_floats[0].data(), out_floats[0].size(),
                                    out_floats[1].data(), out_floats[1].size(), out_codes[1].data(), out_codes[1].size(), out_codes[2].data(),
                                    out_codes[2].size(), out_ints.data(), out_ints.size(), out_codes[0].data(), out_codes[0].size(),
-                                   out_doubles[0].data(), out_doubles[0].size());
+                                   out_doubles.data(), out_doubles.size());
     Text text("pass");
     text.cells(&c.container, 16, container_cells).items(c.items).u(out_floats[0].size()).u(out_floats[1].size()).u(out_codes[1].size());
-    text.u(out_codes[2].size()).u(out_ints.size()).u(out_codes[0].size()).u(out_doubles[0].size());
+    text.u(out_codes[2].size()).u(out_ints.size()).u(out_codes[0].size()).u(out_doubles.size());
     const std::string line = text.answered(a.number, a.where, a.place);
     const bool ok = a.number == 0, balanced = ok && c.container.balanced();
     expect(in_items.kept() && kept(out_floats[0], ok, 8 * n) && kept(out_floats[1], ok, 2 * n) && kept(out_codes[1], ok, n) &&
                kept(out_codes[2], ok, n) && kept(out_ints, ok, n) && kept(out_codes[0], balanced, named.work) &&
-               kept(out_doubles[0], balanced, named.sums),
+               kept(out_doubles, balanced, named.sums),
            "other cells were changed", line);
-    expect(!balanced || (out_codes[0].zero_up_to(named.work) && out_doubles[0].zero_up_to(named.sums)), "work cells are not 0", line);
+    expect(!balanced || (out_codes[0].zero_up_to(named.work) && out_doubles.zero_up_to(named.sums)), "work cells are not 0", line);
     expect(ok || (a.lines == 0 && a.rounds == 0 && model::bits(a.inner_cross) == 0), "a refusal has values", line);
     if (!ok) return;
     const model::Passed p = model::pass(c.container, c.items, model::PassRoom::named(n));
@@ -618,7 +592,6 @@ int main(int argc, char **argv) {
         try_break_limit,
         try_greedy,
         try_balanced,
-        try_parts,
         try_flex_line,
         try_flex_lines,
         try_main,

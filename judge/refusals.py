@@ -124,11 +124,6 @@ def balanced(kind, limit, gap, minimum, sizes, counts, work, sums):
     return breaking(kind, limit, gap, sizes, counts >= n and work >= n * n + 3 * n and sums >= 3 * n)
 
 
-def balanced_parts(kind, limit, gap, minimum, sizes, counts, opts, *rest):
-    n = len(sizes)
-    return breaking(kind, limit, gap, sizes, opts >= n * n and min((counts,) + rest) >= n)
-
-
 def main_numbers(base, minimum, maximum, has_maximum, edges, grow, shrink, start, end, auto_start, auto_end):
     plain = [(SIZE, base), (SIZE, minimum), (SIZE, edges), (FACTOR, grow), (FACTOR, shrink)]
     return plain + given(has_maximum, maximum) + unless_auto(auto_start, start) + unless_auto(auto_end, end)
@@ -243,7 +238,6 @@ CALLS = {
     "break_limit": break_limit,
     "greedy": greedy,
     "balanced": balanced,
-    "balanced_parts": balanced_parts,
     "flex_line": flex_line,
     "flex_lines": flex_lines,
     "place_main": place_main,

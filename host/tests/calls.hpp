@@ -32,8 +32,8 @@ inline void expect(bool ok, const char *what, const Call &c) {
 
 constexpr std::size_t most = 1100;
 inline Lent<float> sizes(most);
-inline Lent<uint32_t> counts(most), work(1024 * 1024 + 4 * most), fit(most), lines_left(most), reach(most);
-inline Lent<double> sums(4 * most), prev(most), cur(most);
+inline Lent<uint32_t> counts(most), work(1024 * 1024 + 4 * most);
+inline Lent<double> sums(4 * most);
 
 // Cells lent beyond those that are named; -1 is a list too short by one cell.
 struct Extra {
@@ -109,32 +109,6 @@ inline void try_break_limit(const model::Query &q) {
 inline void try_both(const Call &c, Extra x = {}) {
     try_greedy(c, x);
     try_balanced(c, x);
-}
-
-// The call that the header cuts the work cells for, each of its lists short by one in turn.
-inline void try_parts(const Call &c) {
-    const std::size_t n = c.sizes.size();
-    for (int shorter = 0; shorter <= 8; shorter++) {
-        const auto cells = [&](int list, std::size_t named) { return shorter == list && named ? named - 1 : named; };
-        sizes.lend(c.sizes, any_stand());
-        counts.lend(cells(1, n), any_stand());
-        work.lend(cells(2, n * n), any_stand());
-        Lent<uint32_t> *u[] = {&fit, &lines_left, &reach};
-        Lent<double> *d[] = {&sums, &prev, &cur};
-        for (int i = 0; i < 3; i++) u[i]->lend(cells(3 + i, n), any_stand()), d[i]->lend(cells(6 + i, n), any_stand());
-        const auto a = fratolivem_balanced_parts(
-            c.kind, c.limit, c.gap, c.minimum, sizes.data(), n, counts.data(), counts.size(), work.data(), work.size(), fit.data(),
-            fit.size(), lines_left.data(), lines_left.size(), reach.data(), reach.size(), sums.data(), sums.size(), prev.data(),
-            prev.size(), cur.data(), cur.size());
-        compare("parts", c, a, expected(c, shorter == 0 || n == 0, true));
-        const std::size_t done = a.number ? 0 : n;
-        bool zero = work.zero_up_to(done * n), kept = work.kept_from(done * n);
-        for (int i = 0; i < 3; i++) {
-            zero = zero && u[i]->zero_up_to(done) && d[i]->zero_up_to(done);
-            kept = kept && u[i]->kept_from(done) && d[i]->kept_from(done);
-        }
-        expect(zero && kept, "parts: work cells", c);
-    }
 }
 
 #endif

@@ -3,13 +3,12 @@ use mathlib.Core.Path.{_≡_, refl, sym, ap, subst, _∙_}
 use mathlib.Core.Bool.{Bool, true, false, true≢false, _&&_}
 use mathlib.Core.Logic.{_⊎_, inl, inr}
 use mathlib.Core.List.{List, [], _∷_, _++_, map, append-assoc}
-use Prim.Native.Nat.{ℕ, _-_, _*_, _≤_, _<_, zero-le}
+use Prim.Native.Nat.{ℕ, _+_, _-_, _*_, _≤_, _<_, zero-le}
 use native.Mathlib.Nat.{mul-le-mul}
 use native.Mathlib.Omega.{arith}
 use borrow.Author.Tests.{lt-ltb}
 use lib.Dec.{T, leb, leb→le}
 use lib.ListN.{length, take, drop, replicate, length-map, length-drop}
-use lib.Seq.{length-take-le}
 use lib.IntN.{ℤ}
 use lib.Ieee.{Float, binary64, ofBits}
 use Rattle.grid.specs.Grid.{sixtyFourths}
@@ -25,10 +24,12 @@ use Rattle.refusal.specs.declared.Answer.the-variants as answer
 use Rattle.breaklimit.specs.declared.AvailableSpace.{AvailableSpace}
 use Rattle.breaking.specs.Breaking.{Limit, limitOf}
 use Rattle.breaking.specs.Calls.{breakingVerdict, units}
-use Rattle.breaking.specs.Steps.{Breakable}
+use Rattle.breaking.specs.Steps.{Breakable, filled, cleared}
 use Rattle.breaking.proofs.Accepted.{breakable}
 use Rattle.rule.specs.Rule.{floored, Valid}
-use Rattle.balance.specs.Calls.{Lent, lent, shortestOf, hasRoom, balancedVerdict, worked, Divides, BalancedCall}
+use Rattle.balance.specs.Calls.{Lent, lent, hasRoom, balancedVerdict, worked, Divides, BalancedCall}
+use Rattle.balance.specs.Parts.{Roomy, Lists, Room, Searched}
+use Rattle.balance.proofs.Cells.{cleared-part, clear-on}
 use Rattle.division.specs.Divided.{Divided, Cleared, ClearedF}
 use Rattle.rule.proofs.DpLaws.{lt-or-ge}
 use Rattle.rule.proofs.Unique.{balanced-one}
@@ -38,70 +39,56 @@ both : (a b : Bool) → T (a && b) → T a × T b
 both true b t = (tt, t)
 both false b t = absurd t
 
-pub record Room (n : ℕ) (l : Lent) : Type 0 where
-  pub counts : n ≤ length (l .counts)
-  pub opts : n * n ≤ length (l .opts)
-  pub fit : n ≤ length (l .fit)
-  pub greedy : n ≤ length (l .greedy)
-  pub reach : n ≤ length (l .reach)
-  pub sums : n ≤ length (l .sums)
-  pub prev : n ≤ length (l .prev)
-  pub cur : n ≤ length (l .cur)
-
-least-of : (n a b c d e f g : ℕ) → n ≤ shortestOf a b c d e f g → (n ≤ a) × (n ≤ b) × (n ≤ c) × (n ≤ d) × (n ≤ e) × (n ≤ f) × (n ≤ g)
-least-of n a b c d e f g h = (omega arith, omega arith, omega arith, omega arith, omega arith, omega arith, omega arith)
-
-pub room-of : (n : ℕ) (l : Lent) → T (hasRoom n l) → Room n l
+room-of : (n : ℕ) (l : Lent) → T (hasRoom n l) → Roomy n l
 room-of n l t =
-    let s : ℕ = shortestOf (length (l .counts)) (length (l .fit)) (length (l .greedy)) (length (l .reach)) (length (l .sums)) (length (l .prev)) (length (l .cur)) in
-    let p = both (leb n s) (leb (n * n) (length (l .opts))) t in
-    let q = least-of n (length (l .counts)) (length (l .fit)) (length (l .greedy)) (length (l .reach)) (length (l .sums)) (length (l .prev)) (length (l .cur)) (leb→le n s (p .0)) in
+    let p = both (leb n (length (l .counts))) (leb (n * n + 3 * n) (length (l .work)) && leb (3 * n) (length (l .sums))) t in
+    let q = both (leb (n * n + 3 * n) (length (l .work))) (leb (3 * n) (length (l .sums))) (p .1) in
+    (leb→le n (length (l .counts)) (p .0), leb→le (n * n + 3 * n) (length (l .work)) (q .0), leb→le (3 * n) (length (l .sums)) (q .1))
+
+-- the search has room: in the lent lists, and in those of the frame
+pub search-room : (n most : ℕ) (l : Lists) → n ≤ most → Roomy n (lent (l .counts) (l .opts) (l .sums))
+    → length (l .fit) ≡ most → length (l .greedy) ≡ most → length (l .reach) ≡ most → length (l .prev) ≡ most → length (l .cur) ≡ most → Room n l
+search-room n most l h q f g r p c =
     record {
       counts = q .0;
-      opts = leb→le (n * n) (length (l .opts)) (p .1);
-      fit = q .1;
-      greedy = q .2;
-      reach = q .3;
-      sums = q .4;
-      prev = q .5;
-      cur = q .6;
+      opts = omega (arith, q .1);
+      fit = omega arith;
+      greedy = omega arith;
+      reach = omega arith;
+      sums = omega (arith, q .2);
+      prev = omega arith;
+      cur = omega arith;
     }
 
 pub square-small : (n : ℕ) → n ≤ 1024 → n * n ≤ 1048576
 square-small n h = mul-le-mul {n₁ = n} {m₁ = n} {n₂ = 1024} {m₂ = 1024} h h
 
 -- ---- the cells
-cleared-part : {A : Type 0} (z : A) (n : ℕ) (before part : List A) → n ≤ length before → part ≡ replicate (length (take n before)) z → part ++ drop n before ≡ replicate n z ++ drop n before
-cleared-part {A} z n before part h e = ap (λ (p : List A). p ++ drop n before) (e ∙ ap (λ (k : ℕ). replicate k z) (length-take-le n before h))
-
-lent-same : {c c′ o o′ f f′ g g′ r r′ : List ℕ} {s s′ p p′ u u′ : List Float} → c ≡ c′ → o ≡ o′ → f ≡ f′ → g ≡ g′ → r ≡ r′ → s ≡ s′ → p ≡ p′ → u ≡ u′
-    → lent c o f g r s p u ≡ lent c′ o′ f′ g′ r′ s′ p′ u′
-lent-same c o f g r s p u = rw (c, o, f, g, r, s, p, u)
-
-module _ (limit : AvailableSpace) (gap : Float) (minimum : ℕ) (sizes : List Float) (b : Lent) where
-  pub divides : (r : ℕ) (counts opts fit greedy reach : List ℕ) (sums prev cur : List Float) → Room (length sizes) b → Divided limit gap minimum sizes r counts
-      → Cleared (take (length sizes * length sizes) (b .opts)) opts → Cleared (take (length sizes) (b .fit)) fit → Cleared (take (length sizes) (b .greedy)) greedy
-      → Cleared (take (length sizes) (b .reach)) reach
-      → ClearedF (take (length sizes) (b .sums)) sums → ClearedF (take (length sizes) (b .prev)) prev → ClearedF (take (length sizes) (b .cur)) cur
-      → Divides limit gap minimum sizes b r
-      (lent (counts ++ drop (length sizes) (b .counts)) (opts ++ drop (length sizes * length sizes) (b .opts)) (fit ++ drop (length sizes) (b .fit)) (greedy ++ drop (length sizes) (b .greedy)) (reach ++ drop (length sizes) (b .reach))
-      (sums ++ drop (length sizes) (b .sums)) (prev ++ drop (length sizes) (b .prev)) (cur ++ drop (length sizes) (b .cur)))
-  divides r counts opts fit greedy reach sums prev cur R D o f g e s p u =
+module _ (limit : AvailableSpace) (gap : Float) (minimum : ℕ) (sizes : List Float) where
+  -- what lies past the cells of the search stays
+  pub searches : (b : Lent) (r : ℕ) (counts opts : List ℕ) (sums : List Float) → length sizes * length sizes ≤ length (b .work) → length sizes ≤ length (b .sums)
+      → Divided limit gap minimum sizes r counts → Cleared (take (length sizes * length sizes) (b .work)) opts → ClearedF (take (length sizes) (b .sums)) sums
+      → Searched limit gap minimum sizes b r (lent (counts ++ drop (length sizes) (b .counts)) (opts ++ drop (length sizes * length sizes) (b .work)) (sums ++ drop (length sizes) (b .sums)))
+  searches b r counts opts sums w k D o s =
       let n : ℕ = length sizes in
-      record {
-        division = D .division;
-        balanced = D .balanced;
-        lines-are = D .lines;
-        cells = lent-same
-            (ap (λ (l : List ℕ). l ++ drop n (b .counts)) (D .counts-are) ∙ append-assoc (D .division) (replicate (n - length (D .division)) 0) (drop n (b .counts)))
-            (cleared-part 0 (n * n) (b .opts) opts (R .opts) o)
-            (cleared-part 0 n (b .fit) fit (R .fit) f)
-            (cleared-part 0 n (b .greedy) greedy (R .greedy) g)
-            (cleared-part 0 n (b .reach) reach (R .reach) e)
-            (cleared-part (ofBits binary64 0) n (b .sums) sums (R .sums) s)
-            (cleared-part (ofBits binary64 0) n (b .prev) prev (R .prev) p)
-            (cleared-part (ofBits binary64 0) n (b .cur) cur (R .cur) u);
-      }
+      let c = ap (λ (l : List ℕ). l ++ drop n (b .counts)) (D .counts-are) ∙ append-assoc (D .division) (replicate (n - length (D .division)) 0) (drop n (b .counts)) in
+      let x = cleared-part 0 (n * n) (b .work) opts w o in
+      let y = cleared-part (ofBits binary64 0) n (b .sums) sums k s in
+      record { division = D .division; balanced = D .balanced; lines-are = D .lines; cells = rw (c, x, y) }
+
+  -- and then the rest of the named work cells is cleared
+  pub divides : (b a : Lent) (r : ℕ) (work : List ℕ) (sums : List Float) → Searched limit gap minimum sizes b r a
+      → work ≡ cleared (length sizes * length sizes) (length sizes * length sizes + 3 * length sizes) (a .work)
+      → sums ≡ filled (ofBits binary64 0) (length sizes) (3 * length sizes) (a .sums)
+      → Divides limit gap minimum sizes b r (lent (a .counts) work sums)
+  divides b a r work sums D w s =
+      let n : ℕ = length sizes in
+      let k : n * n ≤ n * n + 3 * n = omega arith in
+      let j : n ≤ 3 * n = omega arith in
+      let p = ap (λ (l : Lent). l .counts) (D .cells) in
+      let q = w ∙ ap (cleared (n * n) (n * n + 3 * n)) (ap (λ (l : Lent). l .work) (D .cells)) ∙ clear-on 0 (n * n) (n * n + 3 * n) (b .work) k in
+      let t = s ∙ ap (filled (ofBits binary64 0) n (3 * n)) (ap (λ (l : Lent). l .sums) (D .cells)) ∙ clear-on (ofBits binary64 0) n (3 * n) (b .sums) j in
+      record { division = D .division; balanced = D .balanced; lines-are = D .lines-are; cells = rw (p, q, t) }
 
 -- ---- no more lines than items
 valid-few : (limit : Limit) (gap : ℤ) (xs : List ℤ) (d : List ℕ) → Valid limit gap xs d → length d ≤ length xs
@@ -119,21 +106,19 @@ lines-few limit gap minimum sizes b a lines D =
     )
 
 -- ---- the verdict: whether more than 1,024 items have room does not matter
-pub verdict-is : (codes : List Number) (limit : AvailableSpace) (gap : Float) (sizes : List Float) (b : Lent) (room : Bool) (least : ℕ)
-    → least ≡ shortestOf (length (b .counts)) (length (b .fit)) (length (b .greedy)) (length (b .reach)) (length (b .sums)) (length (b .prev)) (length (b .cur))
-    → (length sizes ≤ 1024 → room ≡ (leb (length sizes) least && leb (length sizes * length sizes) (length (b .opts))))
+pub verdict-is : (codes : List Number) (limit : AvailableSpace) (gap : Float) (sizes : List Float) (b : Lent) (room : Bool) → (length sizes ≤ 1024 → room ≡ hasRoom (length sizes) b)
     → breakingVerdict codes limit gap sizes room ≡ breakingVerdict codes limit gap sizes (hasRoom (length sizes) b)
 unfolding breakingVerdict
-verdict-is codes limit gap sizes b room least e h = go (lt-or-ge 1024 (length sizes))
+verdict-is codes limit gap sizes b room h = go (lt-or-ge 1024 (length sizes))
   where
     go : (1024 < length sizes) ⊎ (length sizes ≤ 1024) → breakingVerdict codes limit gap sizes room ≡ breakingVerdict codes limit gap sizes (hasRoom (length sizes) b)
-    go (inr p) = ap (breakingVerdict codes limit gap sizes) (h p ∙ ap (λ (k : ℕ). leb (length sizes) k && leb (length sizes * length sizes) (length (b .opts))) e)
+    go (inr p) = ap (breakingVerdict codes limit gap sizes) (h p)
     go (inl p) = simp (lt-ltb 1024 (length sizes) p)
 
-pub given : (limit : AvailableSpace) (gap : Float) (sizes : List Float) (b : Lent) → balancedVerdict limit gap sizes b ≡ Passed → Breakable limit gap sizes × T (hasRoom (length sizes) b)
+pub given : (limit : AvailableSpace) (gap : Float) (sizes : List Float) (b : Lent) → balancedVerdict limit gap sizes b ≡ Passed → Breakable limit gap sizes × Roomy (length sizes) b
 given limit gap sizes b e =
     let p = breakable [] limit gap sizes (hasRoom (length sizes) b) e in
-    (p .0, subst T (sym (p .1)) tt)
+    (p .0, room-of (length sizes) b (subst T (sym (p .1)) tt))
 
 -- ---- the contract, by the verdict
 isPassed : Verdict → Bool

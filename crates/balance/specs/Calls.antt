@@ -2,7 +2,7 @@
 use mathlib.Core.Path.{_≡_}
 use mathlib.Core.Bool.{Bool, _&&_}
 use mathlib.Core.List.{List, [], _++_}
-use Prim.Native.Nat.{ℕ, _*_, min}
+use Prim.Native.Nat.{ℕ, _+_, _*_}
 use lib.Dec.{leb}
 use lib.ListN.{length, drop, replicate}
 use lib.Ieee.{Float, binary64, ofBits}
@@ -22,25 +22,18 @@ use Rattle.rule.specs.Rule.{Balanced}
 -- the lists that the call is lent: the counts by line, and the cells to work in
 pub record Lent : Type 0 where
   pub counts : List ℕ
-  pub opts : List ℕ
-  pub fit : List ℕ
-  pub greedy : List ℕ
-  pub reach : List ℕ
+  pub work : List ℕ
   pub sums : List Float
-  pub prev : List Float
-  pub cur : List Float
 
-abbrev pub lent : List ℕ → List ℕ → List ℕ → List ℕ → List ℕ → List Float → List Float → List Float → Lent
-lent counts opts fit greedy reach sums prev cur = record { counts = counts; opts = opts; fit = fit; greedy = greedy; reach = reach; sums = sums; prev = prev; cur = cur }
+abbrev pub lent : List ℕ → List ℕ → List Float → Lent
+lent counts work sums = record { counts = counts; work = work; sums = sums }
 
--- "n cells for each answer list ..; balanced breaking also n·n+3n u32 cells and 3n f64 cells": n of each list, and n·n of opts
-abbrev pub shortestOf : ℕ → ℕ → ℕ → ℕ → ℕ → ℕ → ℕ → ℕ
-shortestOf counts fit greedy reach sums prev cur = min counts (min fit (min greedy (min reach (min sums (min prev cur)))))
+-- "Room for n items: n cells for each answer list ..; balanced breaking also n·n+3n u32 cells and 3n f64 cells."
+abbrev pub roomFor : ℕ → ℕ → ℕ → ℕ → Bool
+roomFor n counts work sums = leb n counts && (leb (n * n + 3 * n) work && leb (3 * n) sums)
 
 abbrev pub hasRoom : ℕ → Lent → Bool
-hasRoom n l =
-    leb n (shortestOf (length (l .counts)) (length (l .fit)) (length (l .greedy)) (length (l .reach)) (length (l .sums)) (length (l .prev)) (length (l .cur)))
-    && leb (n * n) (length (l .opts))
+hasRoom n l = roomFor n (length (l .counts)) (length (l .work)) (length (l .sums))
 
 abbrev pub balancedVerdict : AvailableSpace → Float → List Float → Lent → Verdict
 balancedVerdict limit gap sizes before = breakingVerdict [] limit gap sizes (hasRoom (length sizes) before)
@@ -53,9 +46,7 @@ abbrev pub zeroedF : ℕ → List Float → List Float
 zeroedF n before = replicate n (ofBits binary64 0) ++ drop n before
 
 abbrev pub worked : ℕ → List ℕ → Lent → Lent
-worked n lines b =
-    lent (written n lines (b .counts)) (zeroed (n * n) (b .opts)) (zeroed n (b .fit)) (zeroed n (b .greedy)) (zeroed n (b .reach))
-    (zeroedF n (b .sums)) (zeroedF n (b .prev)) (zeroedF n (b .cur))
+worked n lines b = lent (written n lines (b .counts)) (zeroed (n * n + 3 * n) (b .work)) (zeroedF (3 * n) (b .sums))
 
 -- the balanced division's counts in the lent lists
 pub record Divides (limit : AvailableSpace) (gap : Float) (minimum : ℕ) (sizes : List Float) (before : Lent) (lines : ℕ) (after : Lent) : Type 0 where

@@ -1,21 +1,21 @@
-// Balanced breaking (document 01, "Breaking"): the call, and what lends it exactly the cells that it takes.
+// Balanced breaking (document 01, "Breaking"): the call, and what lends the search exactly the cells that it takes.
 ghost use mathlib.Core.Path.{_≡_};
-ghost use mathlib.Core.Bool.{_&&_};
-ghost use Prim.Native.Nat.{_*_, _≤_};
-ghost use lib.Dec.{T, leb};
+ghost use Prim.Native.Nat.{_≤_};
 ghost use lib.ListN.{length};
-ghost use Rattle.breaking.specs.Steps.{Breakable};
-ghost use Rattle.balance.specs.Calls.{lent, shortestOf, hasRoom, Divides, BalancedCall};
+ghost use lib.Ieee.{binary64, ofBits};
+ghost use Rattle.breaking.specs.Steps.{Breakable, filled};
+ghost use Rattle.balance.specs.Calls.{lent, roomFor, Divides, BalancedCall};
+ghost use Rattle.balance.specs.Parts.{Roomy, lists, Room, Searched};
 use breaking::check_breaking;
+use breaking::clear_counts;
 use breaklimit::AvailableSpace;
-use cells::smaller;
 use division::divide;
 use refusal::Answer;
 use refusal::Verdict;
 use refusal::no_mark;
 
-// The balanced division of accepted sizes in lists that may have more cells than it takes: the first n of each are lent, and n * n of opts. It works on accepted sizes: no entry point.
-pub fn divide_within(
+// The search in lists that may have more cells than it takes: the first n of each are lent, and n * n of opts.
+fn divide_within(
     limit: AvailableSpace,
     gap: f32,
     minimum: u32,
@@ -29,8 +29,8 @@ pub fn divide_within(
     prev: &mut [f64],
     cur: &mut [f64],
 ) -> usize
-    requires { ⌜ Breakable limit gap (now sizes) × T (hasRoom (length (now sizes)) (lent (now counts) (now opts) (now fit) (now greedy) (now reach) (now sums) (now prev) (now cur))) ⌝ }
-    ensures { λ r. ⌜ Divides limit gap minimum (now (sizes .entry)) (lent (now (counts .entry)) (now (opts .entry)) (now (fit .entry)) (now (greedy .entry)) (now (reach .entry)) (now (sums .entry)) (now (prev .entry)) (now (cur .entry))) r (lent (now (counts .exit)) (now (opts .exit)) (now (fit .exit)) (now (greedy .exit)) (now (reach .exit)) (now (sums .exit)) (now (prev .exit)) (now (cur .exit))) ⌝ }
+    requires { ⌜ Breakable limit gap (now sizes) × Room (length (now sizes)) (lists (now counts) (now opts) (now fit) (now greedy) (now reach) (now sums) (now prev) (now cur)) ⌝ }
+    ensures { λ r. ⌜ Searched limit gap minimum (now (sizes .entry)) (lent (now (counts .entry)) (now (opts .entry)) (now (sums .entry))) r (lent (now (counts .exit)) (now (opts .exit)) (now (sums .exit))) ⌝ }
 {
     let n = sizes.len();
     let cells = n * n;
@@ -50,36 +50,138 @@ pub fn divide_within(
     )
 }
 
-// The shortest of the lists of which n cells are asked. This and `has_room` also serve callers that check codes of their own.
-pub fn shortest(
-    counts: usize,
-    fit: usize,
-    greedy: usize,
-    reach: usize,
-    sums: usize,
-    prev: usize,
-    cur: usize,
+// Two parts of one lent list cannot be lent at a time, so five lists of the search are the frame's. Of two lengths, since they are cleared
+// whatever n is: few items then pay for few cells.
+fn divide_few(
+    limit: AvailableSpace,
+    gap: f32,
+    minimum: u32,
+    sizes: &[f32],
+    counts: &mut [u32],
+    work: &mut [u32],
+    sums: &mut [f64],
 ) -> usize
-    ensures { λ r. ⌜ r ≡ shortestOf counts fit greedy reach sums prev cur ⌝ }
+    requires { ⌜ Breakable limit gap (now sizes) × (Roomy (length (now sizes)) (lent (now counts) (now work) (now sums))) × (length (now sizes) ≤ 256) ⌝ }
+    ensures { λ r. ⌜ Searched limit gap minimum (now (sizes .entry)) (lent (now (counts .entry)) (now (work .entry)) (now (sums .entry))) r (lent (now (counts .exit)) (now (work .exit)) (now (sums .exit))) ⌝ }
 {
-    let floats = smaller(sums, smaller(prev, cur));
-    smaller(
+    let mut fit = [0u32; 256];
+    let mut greedy = [0u32; 256];
+    let mut reach = [0u32; 256];
+    let mut prev = [0.0f64; 256];
+    let mut cur = [0.0f64; 256];
+    divide_within(
+        limit,
+        gap,
+        minimum,
+        sizes,
         counts,
-        smaller(fit, smaller(greedy, smaller(reach, floats))),
+        work,
+        &mut fit,
+        &mut greedy,
+        &mut reach,
+        sums,
+        &mut prev,
+        &mut cur,
     )
 }
 
-// Whether n items have room. A list of more than 1,024 items is refused whatever the room, so their square is never taken.
-pub fn has_room(n: usize, shortest: usize, opts: usize) -> bool
-    ensures { λ r. ⌜ (n ≤ 1024 → r ≡ (leb n shortest && leb (n * n) opts)) ⌝ }
+fn divide_many(
+    limit: AvailableSpace,
+    gap: f32,
+    minimum: u32,
+    sizes: &[f32],
+    counts: &mut [u32],
+    work: &mut [u32],
+    sums: &mut [f64],
+) -> usize
+    requires { ⌜ Breakable limit gap (now sizes) × Roomy (length (now sizes)) (lent (now counts) (now work) (now sums)) ⌝ }
+    ensures { λ r. ⌜ Searched limit gap minimum (now (sizes .entry)) (lent (now (counts .entry)) (now (work .entry)) (now (sums .entry))) r (lent (now (counts .exit)) (now (work .exit)) (now (sums .exit))) ⌝ }
+{
+    let mut fit = [0u32; 1024];
+    let mut greedy = [0u32; 1024];
+    let mut reach = [0u32; 1024];
+    let mut prev = [0.0f64; 1024];
+    let mut cur = [0.0f64; 1024];
+    divide_within(
+        limit,
+        gap,
+        minimum,
+        sizes,
+        counts,
+        work,
+        &mut fit,
+        &mut greedy,
+        &mut reach,
+        sums,
+        &mut prev,
+        &mut cur,
+    )
+}
+
+fn search(
+    limit: AvailableSpace,
+    gap: f32,
+    minimum: u32,
+    sizes: &[f32],
+    counts: &mut [u32],
+    work: &mut [u32],
+    sums: &mut [f64],
+) -> usize
+    requires { ⌜ Breakable limit gap (now sizes) × Roomy (length (now sizes)) (lent (now counts) (now work) (now sums)) ⌝ }
+    ensures { λ r. ⌜ Searched limit gap minimum (now (sizes .entry)) (lent (now (counts .entry)) (now (work .entry)) (now (sums .entry))) r (lent (now (counts .exit)) (now (work .exit)) (now (sums .exit))) ⌝ }
+{
+    if sizes.len() <= 256 {
+        return divide_few(limit, gap, minimum, sizes, counts, work, sums);
+    }
+    divide_many(limit, gap, minimum, sizes, counts, work, sums)
+}
+
+fn clear_sums(sums: &mut [f64], from: usize, to: usize)
+    requires { ⌜ (from ≤ to) × (to ≤ length (now sums)) ⌝ }
+    ensures { λ _. ⌜ now (sums .exit) ≡ filled (ofBits binary64 0) from to (now (sums .entry)) ⌝ }
+{
+    let mut i = from;
+    while i < to {
+        sums[i] = 0.0;
+        i += 1;
+    }
+}
+
+// The balanced division of accepted sizes, and all named work cells 0. No entry point.
+pub fn divide_lent(
+    limit: AvailableSpace,
+    gap: f32,
+    minimum: u32,
+    sizes: &[f32],
+    counts: &mut [u32],
+    work: &mut [u32],
+    sums: &mut [f64],
+) -> usize
+    requires { ⌜ Breakable limit gap (now sizes) × Roomy (length (now sizes)) (lent (now counts) (now work) (now sums)) ⌝ }
+    ensures { λ r. ⌜ Divides limit gap minimum (now (sizes .entry)) (lent (now (counts .entry)) (now (work .entry)) (now (sums .entry))) r (lent (now (counts .exit)) (now (work .exit)) (now (sums .exit))) ⌝ }
+{
+    let n = sizes.len();
+    let lines = search(limit, gap, minimum, sizes, counts, work, sums);
+    clear_counts(work, n * n, n * n + 3 * n);
+    clear_sums(sums, n, 3 * n);
+    lines
+}
+
+// Whether n items have room. A list of more than 1,024 items is refused whatever the room, so their square is never taken. It also serves
+// callers that check codes of their own.
+pub fn has_room(n: usize, counts: usize, work: usize, sums: usize) -> bool
+    ensures { λ r. ⌜ (n ≤ 1024 → r ≡ roomFor n counts work sums) ⌝ }
 {
     if 1024 < n {
         return false;
     }
-    if shortest < n {
+    if counts < n {
         return false;
     }
-    n * n <= opts
+    if work < n * n + 3 * n {
+        return false;
+    }
+    3 * n <= sums
 }
 
 // Balanced breaking of any bits.
@@ -89,43 +191,16 @@ pub fn balanced(
     minimum: u32,
     sizes: &[f32],
     counts: &mut [u32],
-    opts: &mut [u32],
-    fit: &mut [u32],
-    greedy: &mut [u32],
-    reach: &mut [u32],
+    work: &mut [u32],
     sums: &mut [f64],
-    prev: &mut [f64],
-    cur: &mut [f64],
 ) -> Answer
-    ensures { λ r. ⌜ BalancedCall limit gap minimum (now (sizes .entry)) (lent (now (counts .entry)) (now (opts .entry)) (now (fit .entry)) (now (greedy .entry)) (now (reach .entry)) (now (sums .entry)) (now (prev .entry)) (now (cur .entry))) r (lent (now (counts .exit)) (now (opts .exit)) (now (fit .exit)) (now (greedy .exit)) (now (reach .exit)) (now (sums .exit)) (now (prev .exit)) (now (cur .exit))) ⌝ }
+    ensures { λ r. ⌜ BalancedCall limit gap minimum (now (sizes .entry)) (lent (now (counts .entry)) (now (work .entry)) (now (sums .entry))) r (lent (now (counts .exit)) (now (work .exit)) (now (sums .exit))) ⌝ }
 {
-    let least = shortest(
-        counts.len(),
-        fit.len(),
-        greedy.len(),
-        reach.len(),
-        sums.len(),
-        prev.len(),
-        cur.len(),
-    );
-    let room = has_room(sizes.len(), least, opts.len());
+    let room = has_room(sizes.len(), counts.len(), work.len(), sums.len());
     match check_breaking(no_mark(), limit, gap, sizes, room) {
         Verdict::Refused(why) => Answer::Refused(why),
         Verdict::Passed => {
-            let lines = divide_within(
-                limit,
-                gap,
-                minimum,
-                sizes,
-                counts,
-                opts,
-                fit,
-                greedy,
-                reach,
-                sums,
-                prev,
-                cur,
-            );
+            let lines = divide_lent(limit, gap, minimum, sizes, counts, work, sums);
             Answer::Done {
                 lines: lines as u32,
                 rounds: 0,

@@ -26,54 +26,25 @@ pub extern "C" fn fratolivem_greedy(
     to_c(breaking::greedy(space, gap, sizes, counts))
 }
 
-// Balanced breaking, its work cells as seven lists: stages read one while they write another. `fratolivem_balanced` of the header cuts
-// document 01's two lists into them.
 #[no_mangle]
-pub extern "C" fn fratolivem_balanced_parts(
+pub extern "C" fn fratolivem_balanced(
     limit_kind: u32,
     limit: f32,
     gap: f32,
     minimum: u32,
     sizes: &[f32],
     counts: &mut [u32],
-    opts: &mut [u32],
-    fit: &mut [u32],
-    greedy: &mut [u32],
-    reach: &mut [u32],
+    work: &mut [u32],
     sums: &mut [f64],
-    prev: &mut [f64],
-    cur: &mut [f64],
 ) -> CAnswer
-    ensures { λ r. ⌜ BalancedFromC «limit_kind» limit gap minimum (now (sizes .entry)) (lent (now (counts .entry)) (now (opts .entry)) (now (fit .entry)) (now (greedy .entry)) (now (reach .entry)) (now (sums .entry)) (now (prev .entry)) (now (cur .entry))) r (lent (now (counts .exit)) (now (opts .exit)) (now (fit .exit)) (now (greedy .exit)) (now (reach .exit)) (now (sums .exit)) (now (prev .exit)) (now (cur .exit))) ⌝ }
+    ensures { λ r. ⌜ BalancedFromC «limit_kind» limit gap minimum (now (sizes .entry)) (lent (now (counts .entry)) (now (work .entry)) (now (sums .entry))) r (lent (now (counts .exit)) (now (work .exit)) (now (sums .exit))) ⌝ }
 {
     let space = space_of(limit_kind, limit);
     if 2 < limit_kind {
-        let shortest = balance::shortest(
-            counts.len(),
-            fit.len(),
-            greedy.len(),
-            reach.len(),
-            sums.len(),
-            prev.len(),
-            cur.len(),
-        );
-        let room = balance::has_room(sizes.len(), shortest, opts.len());
+        let room = balance::has_room(sizes.len(), counts.len(), work.len(), sums.len());
         let kind = single::mark_code(2, limit_kind, 0);
         let v = breaking::check_breaking(kind, space, gap, sizes, room);
         return to_c(refusal::answer_of(v, 0, 0));
     }
-    to_c(balance::balanced(
-        space,
-        gap,
-        minimum,
-        sizes,
-        counts,
-        opts,
-        fit,
-        greedy,
-        reach,
-        sums,
-        prev,
-        cur,
-    ))
+    to_c(balance::balanced(space, gap, minimum, sizes, counts, work, sums))
 }

@@ -10,10 +10,11 @@ use Rattle.breaklimit.specs.declared.AvailableSpace.{AvailableSpace}
 use Rattle.breaking.specs.Calls.{written}
 use Rattle.breaking.specs.Steps.{Breakable}
 use Rattle.itemtable.specs.Table.{itemsIn}
+use Rattle.balance.specs.Calls.{Lent}
 use Rattle.wrapping.specs.declared.Mode.{Mode}
 use Rattle.wrapping.specs.declared.Mode.the-variants.{Single, Greedy, Balanced}
 use Rattle.wrapping.specs.Wrapping as wrapping
-use Rattle.wrapping.specs.Wrapping.{modeOf, Lent, Room, Wrapped}
+use Rattle.wrapping.specs.Wrapping.{modeOf, Room, Wrapped}
 use Rattle.wrapping.specs.Outer.{outerSizes}
 use Rattle.wrapping.proofs.Given.{sizes-long}
 use Rattle.wrapping.proofs.Division.{Divides, lines-divide, read-back}

@@ -1,6 +1,6 @@
 // The lines of the whole pass (document 01, "Breaking"), of the items that the table holds.
 ghost use mathlib.Core.Path.{_≡_};
-ghost use Rattle.wrapping.specs.Wrapping as wrapping;
+ghost use Rattle.balance.specs.Calls as balance;
 ghost use Rattle.wrapping.specs.Wrapping.{modeOf};
 ghost use Rattle.breakstage.specs.BreakStage.{Breaks, Broken};
 use breaklimit::space_of;
@@ -30,8 +30,8 @@ pub fn break_items(
     work: &mut [u32],
     sums: &mut [f64],
 ) -> usize
-    requires { ⌜ Breaks c n (now table) (wrapping.lent (now counts) (now work) (now sums)) ⌝ }
-    ensures { λ r. ⌜ Broken c n (now (table .entry)) (wrapping.lent (now (counts .entry)) (now (work .entry)) (now (sums .entry))) r (wrapping.lent (now (counts .exit)) (now (work .exit)) (now (sums .exit))) ⌝ }
+    requires { ⌜ Breaks c n (now table) (balance.lent (now counts) (now work) (now sums)) ⌝ }
+    ensures { λ r. ⌜ Broken c n (now (table .entry)) (balance.lent (now (counts .entry)) (now (work .entry)) (now (sums .entry))) r (balance.lent (now (counts .exit)) (now (work .exit)) (now (sums .exit))) ⌝ }
 {
     let mut sizes = [0.0; 1024];
     outer_sizes(table, n, &mut sizes);

@@ -3,7 +3,7 @@
 use mathlib.Core.Path.{_≡_, refl, sym, _∙_, ap, subst}
 use mathlib.Core.Bool.{true}
 use mathlib.Core.List.{List, []}
-use Prim.Native.Nat.{ℕ, _*_, _≤_, _^_}
+use Prim.Native.Nat.{ℕ, _+_, _*_, _≤_, _^_}
 use native.Mathlib.Nat.{mul-le-mul}
 use native.Mathlib.Omega.{arith}
 use native.Mathlib.Decide.{decLe}
@@ -35,27 +35,19 @@ use Rattle.feeding.proofs.Whole.{knownOf, toldBy, said}
 
 pub record Roomy (l : Lent) : Type 0 where
   pub counts-room : length (l .counts) ≡ 64
-  pub opts-room : length (l .opts) ≡ 4096
-  pub fit-room : length (l .fit) ≡ 64
-  pub greedy-room : length (l .greedy) ≡ 64
-  pub reach-room : length (l .reach) ≡ 64
-  pub sums-room : length (l .sums) ≡ 64
-  pub prev-room : length (l .prev) ≡ 64
-  pub cur-room : length (l .cur) ≡ 64
+  pub work-room : length (l .work) ≡ 4288
+  pub sums-room : length (l .sums) ≡ 192
 
 room-is : (n : ℕ) (l : Lent) → n ≤ 64 → Roomy l → hasRoom n l ≡ true
 room-is n l h r =
+    let s : n * n ≤ 4096 = mul-le-mul h h in
     rw (
       r .counts-room,
-      r .opts-room,
-      r .fit-room,
-      r .greedy-room,
-      r .reach-room,
+      r .work-room,
       r .sums-room,
-      r .prev-room,
-      r .cur-room,
       le-leb n 64 h,
-      le-leb (n * n) 4096 (mul-le-mul h h),
+      le-leb (n * n + 3 * n) 4288 (omega (arith, s)),
+      le-leb (3 * n) 192 (omega arith),
     )
 
 pub breaks : (head : Head) (sizes : List Float) (before after : Lent) (r : Answer) → length sizes ≤ 64 → Roomy before

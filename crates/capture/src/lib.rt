@@ -31,26 +31,16 @@ fn break_items(head: Head, sizes: &[f32], counts: &mut [u32]) -> Reply
     ensures { λ r. ⌜ ByVerdict (verdictOf head (now (sizes .entry))) head (now (sizes .entry)) (now (counts .entry)) r (now (counts .exit)) ⌝ }
 {
     let limit = head.limit;
-    let mut opts = [0u32; 4096];
-    let mut fit = [0u32; 64];
-    let mut greedy = [0u32; 64];
-    let mut reach = [0u32; 64];
-    let mut sums = [0.0f64; 64];
-    let mut prev = [0.0f64; 64];
-    let mut cur = [0.0f64; 64];
+    let mut work = [0u32; 4288];
+    let mut sums = [0.0f64; 192];
     reply_of(balance::balanced(
         limit,
         head.gap,
         head.minimum,
         sizes,
         counts,
-        &mut opts,
-        &mut fit,
-        &mut greedy,
-        &mut reach,
+        &mut work,
         &mut sums,
-        &mut prev,
-        &mut cur,
     ))
 }
 

@@ -6,7 +6,7 @@ use refusal::Answer;
 use refusal::Place;
 use refusal::Refusal;
 
-// An answer's number, its place, its lines and its rounds. `at` says where: 0 nowhere, 1 the container, 2 the item, line or byte `place`.
+// An answer's number, its place, its lines and its rounds. `at` says where: 0 nowhere, 1 the container, 2 the item or line `place`.
 #[repr(C)]
 pub struct CAnswer {
     pub number: u32,

@@ -17,6 +17,7 @@ use Rattle.itemtable.proofs.Columns.{items-are}
 use Rattle.flexlines.specs.Lines.{FlexedLines}
 use Rattle.align.specs.Align.{contentOf}
 use Rattle.mainlines.specs.Main.{MainLines}
+use Rattle.balance.specs.Calls as balance
 use Rattle.wrapping.specs.Wrapping as wrapping
 use Rattle.wrapping.specs.Outer.{outerSizes}
 use Rattle.container.specs.declared.Container.{Container}
@@ -47,8 +48,8 @@ items-in {n} t {x} {codes} l held = ap (itemsIn t 0) (sym (number-length l 0 (om
 
 -- ---- what the main axis asks
 
-pub main-ready : {c : Container} {n : ℕ} {t x : List Float} {codes : List ℕ} {placed : List Float} {counts rounds : List ℕ} {free : List ℤ} {work : List ℕ} {sums : List Float} {k : ℕ} {a : wrapping.Lent}
-    → MainAsked c n t x codes placed counts rounds free work sums → Broken c n t (wrapping.lent counts work sums) k a → main.Ready c n t x codes (take k (a .counts)) free rounds
+pub main-ready : {c : Container} {n : ℕ} {t x : List Float} {codes : List ℕ} {placed : List Float} {counts rounds : List ℕ} {free : List ℤ} {work : List ℕ} {sums : List Float} {k : ℕ} {a : balance.Lent}
+    → MainAsked c n t x codes placed counts rounds free work sums → Broken c n t (balance.lent counts work sums) k a → main.Ready c n t x codes (take k (a .counts)) free rounds
 main-ready {c} {n} {t} m w =
     let d = divides-of c n t w in
     record {
@@ -88,7 +89,7 @@ module _ {c : Container} {n : ℕ} {t x : List Float} {codes : List ℕ} {placed
       let f = m .main .run in
       let same : (j : ℕ) → j < 4 → column n j p ≡ column n j placed = λ j h. sym (q .across .others j h) in
       record {
-        broken = subst (λ (l : List Item). wrapping.Wrapped (modeOf (c .wrap)) (limitOf c) (cleaned (c .«gap_main»)) (c .«minimum_lines») (outerSizes l) (wrapping.lent counts₀ work₀ sums₀) k (wrapping.lent counts work sums)) e (m .broken);
+        broken = subst (λ (l : List Item). wrapping.Wrapped (modeOf (c .wrap)) (limitOf c) (cleaned (c .«gap_main»)) (c .«minimum_lines») (outerSizes l) (balance.lent counts₀ work₀ sums₀) k (balance.lent counts work sums)) e (m .broken);
         flexed = subst (λ (y : List Float). FlexedLines (cleaned (c .«inner_main»)) (cleaned (c .«gap_main»)) (itemAt (mainLists n x codes)) n (take k counts) sum (zeros n) free₀ rounds₀ y free rounds) (same 0 (omega arith)) (f .flexed);
         spaced =
             subst (λ (y : List Float). Spaced y (column n 1 placed) (column n 2 placed) (column n 3 placed)) (same 0 (omega arith))

@@ -13,7 +13,7 @@ use Rattle.flexing.specs.Items.{itemAt, itemsOf}
 use Rattle.itemtable.proofs.Each.{length-each}
 use Rattle.flexlines.specs.Lines.{FlexedLines}
 use Rattle.flexlines.proofs.Alone.{OneFlexed, one-flexed}
-use Rattle.wrapping.specs.Wrapping as wrapping
+use Rattle.balance.specs.Calls as balance
 use Rattle.wrapping.specs.Outer.{outerSizes}
 use Rattle.wrapping.proofs.Division.{no-choice}
 use Rattle.align.specs.Align.{contentOf}
@@ -66,11 +66,11 @@ module _ (c : Container) (n : ℕ) (x : List Float) (codes : List ℕ) (b : Lent
   many = length-map (itemsOf (mainLists n x codes)) _ ∙ length-each (length (column n 0 x)) (itemAt (mainLists n x codes)) ∙ number-length l 0 (omega arith)
 
   module _ {k k' sum sum' : ℕ} {inner inner' : Float} {a d : Lent} (p : Laid c n x codes b k sum inner a) (q : Laid c n x codes b k' sum' inner' d) where
-    lines-one : (k ≡ k') × (wrapping.lent (a .counts) (a .work) (a .sums) ≡ wrapping.lent (d .counts) (d .work) (d .sums))
+    lines-one : (k ≡ k') × (balance.lent (a .counts) (a .work) (a .sums) ≡ balance.lent (d .counts) (d .work) (d .sums))
     lines-one = no-choice (limitOf c) (cleaned (c .«gap_main»)) (c .«minimum_lines») (outerSizes (itemsOf (mainLists n x codes))) (modeOf (c .wrap)) _ k k' _ _ (p .broken) (q .broken)
 
     counts-one : take k' (d .counts) ≡ take k (a .counts)
-    counts-one = sym (ap₂ (λ (j : ℕ) (y : wrapping.Lent). take j (y .counts)) (lines-one .0) (lines-one .1))
+    counts-one = sym (ap₂ (λ (j : ℕ) (y : balance.Lent). take j (y .counts)) (lines-one .0) (lines-one .1))
 
     division : Division (take k (a .counts)) n
     division = wrapped-divides (modeOf (c .wrap)) (limitOf c) (cleaned (c .«gap_main»)) (c .«minimum_lines») (outerSizes (itemsOf (mainLists n x codes))) (p .broken) .whole ∙ many
@@ -128,5 +128,5 @@ module _ (c : Container) (n : ℕ) (x : List Float) (codes : List ℕ) (b : Lent
           lines-one .0,
           flexed-one .sums,
           aligned-one .0,
-          same placed-one lists-one (ap (λ (y : wrapping.Lent). y .counts) w) (flexed-one .rounds) (flexed-one .free) (ap (λ (y : wrapping.Lent). y .work) w) (ap (λ (y : wrapping.Lent). y .sums) w),
+          same placed-one lists-one (ap (λ (y : balance.Lent). y .counts) w) (flexed-one .rounds) (flexed-one .free) (ap (λ (y : balance.Lent). y .work) w) (ap (λ (y : balance.Lent). y .sums) w),
         )

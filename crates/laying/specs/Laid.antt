@@ -7,6 +7,7 @@ use lib.Ieee.{Float}
 use Rattle.grid.specs.Grid.{cleaned}
 use Rattle.flexing.specs.Items.{itemAt, itemsOf}
 use Rattle.flexlines.specs.Lines.{FlexedLines}
+use Rattle.balance.specs.Calls as balance
 use Rattle.wrapping.specs.Wrapping as wrapping
 use Rattle.wrapping.specs.Wrapping.{modeOf}
 use Rattle.wrapping.specs.Outer.{outerSizes}
@@ -42,7 +43,7 @@ lent p l k r f w s = record { placed = p; lines = l; counts = k; rounds = r; fre
 -- so many lines, the sum of their rounds, and the container's inner cross size
 pub record Laid (c : Container) (n : ℕ) (x : List Float) (codes : List ℕ) (before : Lent) (lines sum : ℕ) (inner : Float) (after : Lent) : Type 0 where
   -- "Breaking", of the hypothetical outer main sizes
-  pub broken : wrapping.Wrapped (modeOf (c .wrap)) (limitOf c) (cleaned (c .«gap_main»)) (c .«minimum_lines») (outerSizes (itemsOf (mainLists n x codes))) (wrapping.lent (before .counts) (before .work) (before .sums)) lines (wrapping.lent (after .counts) (after .work) (after .sums))
+  pub broken : wrapping.Wrapped (modeOf (c .wrap)) (limitOf c) (cleaned (c .«gap_main»)) (c .«minimum_lines») (outerSizes (itemsOf (mainLists n x codes))) (balance.lent (before .counts) (before .work) (before .sums)) lines (balance.lent (after .counts) (after .work) (after .sums))
   -- "Flexible lengths", of each line
   pub flexed : FlexedLines (cleaned (c .«inner_main»)) (cleaned (c .«gap_main»)) (itemAt (mainLists n x codes)) n (take lines (after .counts)) sum (zeros n) (before .free) (before .rounds) (column n 0 (after .placed)) (after .free) (after .rounds)
   -- "Main axis", of each line

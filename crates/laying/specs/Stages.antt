@@ -7,7 +7,7 @@ use lib.Ieee.{Float}
 use Rattle.grid.specs.Grid.{Length, cleaned}
 use Rattle.flexing.specs.Flex.{outerSum}
 use Rattle.itemtable.specs.Table.{itemsIn, Tabled, Held}
-use Rattle.wrapping.specs.Wrapping as wrapping
+use Rattle.balance.specs.Calls as balance
 use Rattle.container.specs.declared.Container.{Container}
 use Rattle.container.specs.Columns.{column, mainLists}
 use Rattle.container.specs.Stages.{Listed}
@@ -37,7 +37,7 @@ pub record MainAsked (c : Container) (n : ℕ) (t x : List Float) (codes : List 
   pub tabled : Tabled t n
   pub inner-is : Length (cleaned (c .«inner_main»))
   pub gap-is : Length (cleaned (c .«gap_main»))
-  pub breaks : Breaks c n t (wrapping.lent counts work sums)
+  pub breaks : Breaks c n t (balance.lent counts work sums)
   pub within : outerSum (cleaned (c .«gap_main»)) (itemsIn t 0 n) ≤ 16777216
   pub placed-room : 8 * n ≤ length placed
   pub counts-room : n ≤ length counts
@@ -45,7 +45,7 @@ pub record MainAsked (c : Container) (n : ℕ) (t x : List Float) (codes : List 
   pub free-room : n ≤ length free
 
 pub record MainLaid (c : Container) (n : ℕ) (t x : List Float) (codes : List ℕ) (placed₀ : List Float) (counts₀ rounds₀ : List ℕ) (free₀ : List ℤ) (work₀ : List ℕ) (sums₀ : List Float) (lines sum : ℕ) (placed : List Float) (counts rounds : List ℕ) (free : List ℤ) (work : List ℕ) (sums : List Float) : Type 0 where
-  pub broken : Broken c n t (wrapping.lent counts₀ work₀ sums₀) lines (wrapping.lent counts work sums)
+  pub broken : Broken c n t (balance.lent counts₀ work₀ sums₀) lines (balance.lent counts work sums)
   pub main : MainStage c n x codes (take lines counts) placed₀ free₀ rounds₀ sum placed free rounds
 
 -- ---- an accepted run

@@ -28,6 +28,7 @@ use Rattle.itemtable.proofs.Columns.{tabled-of}
 use Rattle.flexchecks.specs.Input.{inputOf}
 use Rattle.flexchecks.proofs.Accept.{inner-length, gap-length, measured-of, refused-then, passed-then}
 use Rattle.wrapping.specs.declared.Mode.the-variants.{Single, Greedy, Balanced}
+use Rattle.balance.specs.Calls as balance
 use Rattle.wrapping.specs.Wrapping as wrapping
 use Rattle.wrapping.proofs.Given.{table-breakable}
 use Rattle.crosschecks.specs.Numbers.{boundNumbers, crossNumbers}
@@ -71,7 +72,7 @@ balanced-code (suc (suc (suc zero))) h l = refl
 balanced-code (suc (suc (suc (suc zero)))) h l = refl
 balanced-code (suc (suc (suc (suc (suc k))))) h l = absurd (omega arith)
 
-room-of : (wrap n : ℕ) (b : wrapping.Lent) → wrap ≤ 4 → n ≤ length (b .counts) → (balances wrap ≡ true → (n * n + 3 * n ≤ length (b .work)) × (3 * n ≤ length (b .sums))) → wrapping.Room (modeOf wrap) n b
+room-of : (wrap n : ℕ) (b : balance.Lent) → wrap ≤ 4 → n ≤ length (b .counts) → (balances wrap ≡ true → (n * n + 3 * n ≤ length (b .work)) × (3 * n ≤ length (b .sums))) → wrapping.Room (modeOf wrap) n b
 room-of wrap n b l h w = go (eqb wrap 0) (ltb wrap 3) refl
   where
     go : (p q : Bool) → ltb wrap 3 ≡ q → wrapping.Room (cond p Single (cond q Greedy Balanced)) n b
@@ -154,7 +155,7 @@ module _ {c : Container} {n : ℕ} {x : List Float} {codes : List ℕ} {b : Lent
             breaks = record {
               wide = wide;
               breakable = table-breakable t n (cleaned (c .«gap_main»)) table-is w (limitOf c) (given .few) (limit-length (c .«limit_kind») (c .limit) (limit-and-cross .0)) gap-is (g .1 .0, clean-size (c .«gap_main») (g .0) ∙ g .1 .1);
-              room = room-of (c .wrap) n (wrapping.lent (b .counts) (b .work) (b .sums)) (wrap-code (crossNumbersOf c) (limit-and-cross .1)) (given .counts-room) (given .work-room);
+              room = room-of (c .wrap) n (balance.lent (b .counts) (b .work) (b .sums)) (wrap-code (crossNumbersOf c) (limit-and-cross .1)) (given .counts-room) (given .work-room);
             };
             within = w;
             placed-room = given .placed-room;

@@ -1,13 +1,15 @@
--- What a turn of the program's loop leaves: a reader with room for all but the bytes that one read can give. Assumes nothing.
+-- What a turn of the program's loop leaves: the reader, fed a burst of as many bytes as the read gave. Only contracts of parts cite it. Assumes nothing.
 use mathlib.Core.Path.{_≡_}
 use mathlib.Core.List.{List}
-use Prim.Native.Nat.{ℕ, _+_}
+use Prim.Native.Nat.{ℕ, _≤_}
 use lib.ListN.{length}
 use lib.Ieee.{Float}
-use Rattle.feeding.specs.Machine.{Ready}
+use Rattle.feeding.specs.Machine.{withSizes, fed}
 use Rattle.feeding.specs.declared.Reader.{Reader}
 use Rattle.wall.specs.declared.Turn.{Turn}
 
 pub record Turned (before : Reader) (room : List Float) (turn : Turn) (after : List Float) : Type 0 where
-  pub ready : (n : ℕ) → Ready before (65536 + n) → Ready (turn .reader) n
-  pub full : length after ≡ length room
+  pub burst : List ℕ
+  pub bytes-are : turn .bytes ≡ length burst
+  pub few : length burst ≤ 65536
+  pub fed-is : withSizes (turn .reader) after ≡ fed (withSizes before room) burst

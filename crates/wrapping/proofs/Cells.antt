@@ -1,4 +1,4 @@
--- The cells of the parts, on plain values: one line, the outer sizes so far, and the work lists once the rest of their cells is cleared. Assumes nothing.
+-- The cells of the parts, on plain values: one line, and the outer sizes so far. Assumes nothing.
 use mathlib.Core.Path.{_≡_, refl, sym, ap, ap₂, _∙_}
 use mathlib.Core.List.{List, [], _∷_, _++_, append-assoc}
 use Prim.Native.Nat.{ℕ, zero, suc, _+_, _-_, _≤_, _<_}
@@ -37,18 +37,3 @@ each-more {A} f i v before cells h w e =
     ∙ ap (λ (x : A). each i f ++ (x ∷ drop (suc i) before)) w
     ∙ sym (append-assoc (each i f) (f i ∷ []) (drop (suc i) before))
     ∙ ap (λ (k : ℕ). each k f ++ drop k before) (sym (add-one i))
-
--- ---- more cells of a list that is clear at its front
-
-pub clear-on : {A : Type 0} (z : A) (from to : ℕ) (before : List A) → from ≤ to → filled z from to (replicate from z ++ drop from before) ≡ replicate to z ++ drop to before
-clear-on {A} z from to before h =
-    ap₂ (λ (t r : List A). t ++ (replicate (to - from) z ++ r)) (take-at (replicate from z) (drop from before) from (length-replicate from z)) past
-    ∙ sym (append-assoc (replicate from z) (replicate (to - from) z) (drop to before))
-    ∙ ap (λ (t : List A). t ++ drop to before) (replicate-append-replicate from (to - from) z ∙ ap (λ (k : ℕ). replicate k z) (add-sub-of-le h))
-  where
-    past : drop to (replicate from z ++ drop from before) ≡ drop to before
-    past =
-        ap (λ (k : ℕ). drop k (replicate from z ++ drop from before)) (sym (add-sub-of-le h) ∙ ap (λ (k : ℕ). k + (to - from)) (sym (length-replicate from z)))
-        ∙ drop-append-add (replicate from z) (drop from before) (to - from)
-        ∙ drop-drop (to - from) from before
-        ∙ ap (λ (k : ℕ). drop k before) (add-sub-of-le h)

@@ -17,11 +17,12 @@ use Rattle.breaklimit.specs.declared.AvailableSpace.{AvailableSpace}
 use Rattle.breaking.specs.Breaking.{Limit, limitOf, greedy}
 use Rattle.breaking.specs.Calls.{units, written}
 use Rattle.breaking.proofs.Lines.{total, greedy-total, greedy-positive}
+use Rattle.balance.specs.Calls.{Lent}
 use Rattle.rule.specs.Rule.{floored, Valid}
 use Rattle.rule.proofs.Unique.{balanced-one}
 use Rattle.wrapping.specs.declared.Mode.{Mode}
 use Rattle.wrapping.specs.declared.Mode.the-variants.{Single, Greedy, Balanced}
-use Rattle.wrapping.specs.Wrapping.{oneLine, Lines, Lent, listed, Wrapped}
+use Rattle.wrapping.specs.Wrapping.{oneLine, Lines, listed, Wrapped}
 
 -- ---- counts
 

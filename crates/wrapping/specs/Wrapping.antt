@@ -1,4 +1,4 @@
--- The lines of a container by its wrap mode (document 01, "Breaking"), and the lists that breaking is lent. Definitions only. Assumes nothing.
+-- The lines of a container by its wrap mode (document 01, "Breaking"), in the lists that balanced breaking is lent. Definitions only. Assumes nothing.
 use mathlib.Core.Path.{_≡_}
 use mathlib.Core.Bool.{cond}
 use mathlib.Core.List.{List, [], _∷_}
@@ -11,7 +11,8 @@ use Rattle.breaklimit.specs.declared.AvailableSpace.{AvailableSpace}
 use Rattle.breaking.specs.Breaking.{limitOf, greedy}
 use Rattle.breaking.specs.Calls.{units, written}
 use Rattle.rule.specs.Rule as rule
-use Rattle.balance.specs.Calls.{zeroed, zeroedF}
+use Rattle.balance.specs.Calls.{Lent, lent, worked}
+use Rattle.balance.specs.Parts.{Roomy}
 use Rattle.wrapping.specs.declared.Mode.{Mode}
 use Rattle.wrapping.specs.declared.Mode.the-variants.{Single, Greedy, Balanced}
 
@@ -30,26 +31,17 @@ Lines Single limit gap minimum sizes lines = lines ≡ oneLine (length sizes)
 Lines Greedy limit gap minimum sizes lines = lines ≡ greedy (limitOf limit) (sixtyFourths gap) (units sizes)
 Lines Balanced limit gap minimum sizes lines = rule.Balanced (limitOf limit) (sixtyFourths gap) (units sizes) minimum lines
 
--- the lists that breaking is lent: the counts by line, and the cells to work in
-pub record Lent : Type 0 where
-  pub counts : List ℕ
-  pub work : List ℕ
-  pub sums : List Float
-
-abbrev pub lent : List ℕ → List ℕ → List Float → Lent
-lent counts work sums = record { counts = counts; work = work; sums = sums }
-
 -- "Room for n items: n cells for each answer list ..; balanced breaking also n·n+3n u32 cells and 3n f64 cells."
 abbrev pub Room : Mode → ℕ → Lent → Type 0
 Room Single n l = n ≤ length (l .counts)
 Room Greedy n l = n ≤ length (l .counts)
-Room Balanced n l = (n ≤ length (l .counts)) × (n * n + 3 * n ≤ length (l .work)) × (3 * n ≤ length (l .sums))
+Room Balanced n l = Roomy n l
 
 -- "After acceptance those work cells are zero, and all cells past the named ones are unchanged."
 abbrev pub listed : Mode → ℕ → List ℕ → Lent → Lent
 listed Single n lines b = lent (written n lines (b .counts)) (b .work) (b .sums)
 listed Greedy n lines b = lent (written n lines (b .counts)) (b .work) (b .sums)
-listed Balanced n lines b = lent (written n lines (b .counts)) (zeroed (n * n + 3 * n) (b .work)) (zeroedF (3 * n) (b .sums))
+listed Balanced n lines b = worked n lines b
 
 -- BREAKING BY WRAP MODE: the answer is the number of the lines, and the lists hold their counts
 pub record Wrapped (mode : Mode) (limit : AvailableSpace) (gap : Float) (minimum : ℕ) (sizes : List Float) (before : Lent) (r : ℕ) (after : Lent) : Type 0 where

@@ -4,13 +4,12 @@ ghost use mathlib.Core.Path.{_≡_};
 ghost use mathlib.Core.List.{_++_};
 ghost use Prim.Native.Nat.{_≤_};
 ghost use lib.ListN.{length, drop};
-ghost use lib.Ieee.{binary64, ofBits};
-ghost use Rattle.breaking.specs.Steps.{Breakable, Listed, filled};
+ghost use Rattle.balance.specs.Calls.{lent};
+ghost use Rattle.breaking.specs.Steps.{Breakable, Listed};
 ghost use Rattle.itemtable.specs.Table.{Wide, itemsIn};
-ghost use Rattle.wrapping.specs.Wrapping.{oneLine, lent, Room, Wrapped};
+ghost use Rattle.wrapping.specs.Wrapping.{oneLine, Room, Wrapped};
 ghost use Rattle.wrapping.specs.Outer.{outerSizes};
-ghost use Rattle.wrapping.specs.declared.Mode.the-variants.{Balanced};
-use balance::divide_within;
+use balance::divide_lent;
 use breaking::clear_counts;
 use breaking::greedy_checked;
 use breaklimit::AvailableSpace;
@@ -51,55 +50,6 @@ fn single_line(n: usize, counts: &mut [u32]) -> usize
     1
 }
 
-fn clear_sums(sums: &mut [f64], from: usize, to: usize)
-    requires { ⌜ (from ≤ to) × (to ≤ length (now sums)) ⌝ }
-    ensures { λ _. ⌜ now (sums .exit) ≡ filled (ofBits binary64 0) from to (now (sums .entry)) ⌝ }
-{
-    let mut i = from;
-    while i < to {
-        sums[i] = 0.0;
-        i += 1;
-    }
-}
-
-// Five of the lists that balanced breaking works in are the frame's; those of the host stay n·n + 3n and 3n cells.
-fn balanced_lines(
-    limit: AvailableSpace,
-    gap: f32,
-    minimum: u32,
-    sizes: &[f32],
-    counts: &mut [u32],
-    work: &mut [u32],
-    sums: &mut [f64],
-) -> usize
-    requires { ⌜ Breakable limit gap (now sizes) × Room Balanced (length (now sizes)) (lent (now counts) (now work) (now sums)) ⌝ }
-    ensures { λ r. ⌜ Wrapped Balanced limit gap minimum (now (sizes .entry)) (lent (now (counts .entry)) (now (work .entry)) (now (sums .entry))) r (lent (now (counts .exit)) (now (work .exit)) (now (sums .exit))) ⌝ }
-{
-    let n = sizes.len();
-    let mut fit = [0u32; 1024];
-    let mut greedy = [0u32; 1024];
-    let mut reach = [0u32; 1024];
-    let mut prev = [0.0f64; 1024];
-    let mut cur = [0.0f64; 1024];
-    let lines = divide_within(
-        limit,
-        gap,
-        minimum,
-        sizes,
-        counts,
-        work,
-        &mut fit,
-        &mut greedy,
-        &mut reach,
-        sums,
-        &mut prev,
-        &mut cur,
-    );
-    clear_counts(work, n * n, n * n + 3 * n);
-    clear_sums(sums, n, 3 * n);
-    lines
-}
-
 // The lines of the sizes, by wrap mode. No entry point: what it asks is what the checks show.
 pub fn break_lines(
     mode: Mode,
@@ -117,6 +67,6 @@ pub fn break_lines(
     match mode {
         Mode::Single => single_line(sizes.len(), counts),
         Mode::Greedy => greedy_checked(limit, gap, sizes, counts),
-        Mode::Balanced => balanced_lines(limit, gap, minimum, sizes, counts, work, sums),
+        Mode::Balanced => divide_lent(limit, gap, minimum, sizes, counts, work, sums),
     }
 }

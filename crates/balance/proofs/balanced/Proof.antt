@@ -2,8 +2,10 @@
 use mathlib.Core.Path.{_≡_, sym, _∙_}
 use mathlib.Core.List.{[]}
 use native.Mathlib.Omega.{arith}
+use denote.Ref.{now}
 use borrow.Author.Needs.{needs}
 use Rattle.refusal.specs.Marks.{leastOf}
+use Rattle.breaking.specs.Calls.{breakingVerdict}
 use Rattle.balance.specs.Calls.{Lent, lent, balancedVerdict}
 use Rattle.balance.proofs.Call.{lines-few, verdict-is, given, call-refused, call-accepted}
 use Rattle.balance.proofs.balanced.Statement.{statement}
@@ -11,22 +13,17 @@ use Rattle.balance.proofs.balanced.Tie as tie
 
 -- the lists as they are lent
 abbrev before : tie.Start → Lent
-before st =
-    let a = st .args in
-    lent (a .counts .now) (a .opts .now) (a .fit .now) (a .greedy .now) (a .reach .now) (a .sums .now) (a .prev .now) (a .cur .now)
+before st = lent (st .args .counts .now) (st .args .work .now) (st .args .sums .now)
 
 -- the verdict of the checks
-verdict : (c : tie.After-check-breaking) → let st = c .before .before .before .before .before .before .before .before .before .before .before .before .before in
-    c .check-breaking .result ≡ balancedVerdict (st .args .limit) (st .args .gap) (st .args .sizes .now) (before st)
+verdict : (c : tie.After-check-breaking) → let st = c .before .before .before .before .before .before .before in
+    c .check-breaking .result ≡ balancedVerdict (st .args .limit) (st .args .gap) (now (st .args .sizes)) (before st)
 unfolding leastOf
 verdict c =
-    let st = c .before .before .before .before .before .before .before .before .before .before .before .before .before in
-    let a = st .args in
-    c .check-breaking .ensures [] (c .before .no-mark .ensures)
-    ∙ verdict-is [] (a .limit) (a .gap) (a .sizes .now) (before st) (c .before .before .has-room .result) (c .before .before .before .shortest .result) (c .before .before .before .shortest .ensures) (c .before .before .has-room .ensures)
-
-shortest-requires : tie.Need-shortest-requires
-shortest-requires c κs = search needs
+    let st = c .before .before .before .before .before .before .before in
+    let room = c .before .before .has-room in
+    _∙_ {b = breakingVerdict [] (st .args .limit) (st .args .gap) (now (st .args .sizes)) (room .result)} (c .check-breaking .ensures [] (c .before .no-mark .ensures))
+    (verdict-is [] (st .args .limit) (st .args .gap) (now (st .args .sizes)) (before st) (room .result) (room .ensures))
 
 has-room-requires : tie.Need-has-room-requires
 has-room-requires c κs = search needs
@@ -43,25 +40,24 @@ enum-known-why c = search needs
 enum-told : tie.Need-enum-told
 enum-told c = search needs
 
-divide-within-requires : tie.Need-divide-within-requires
-divide-within-requires c κs =
-    let st = c .before .before .before .before .before .before .before .before .before .before .before .before .before .before .before .before .before .before .before .before .before .before .before in
-    let a = st .args in
-    given (a .limit) (a .gap) (a .sizes .now) (before st) (sym (verdict (c .before .before .before .before .before .before .before .before .before .before)) ∙ c .before .before .before .before .before .before .before .before .enum-told .given .1)
+divide-lent-requires : tie.Need-divide-lent-requires
+divide-lent-requires c κs =
+    let st = c .before .before .before .before .before .before .before .before .before .before .before .before in
+    given (st .args .limit) (st .args .gap) (now (st .args .sizes)) (before st) (sym (verdict (c .before .before .before .before .before)) ∙ c .before .before .before .enum-told .given .1)
 
-cast-t43 : tie.Need-cast-t43
-cast-t43 c =
-    let st = c .before .before .before .before .before .before .before .before .before .before .before .before .before .before .before .before .before .before .before .before .before .before .before .before .before .before .before .before .before .before .before .before .before .before .before .before .before .before .before .before in
+cast-t24 : tie.Need-cast-t24
+cast-t24 c =
+    let st = c .before .before .before .before .before .before .before .before .before .before .before .before .before .before .before .before .before .before .before in
     let a = st .args in
-    let d = c .before .before .before .before .before .before .before .before .before .before .before .before .before .before .before .before .divide-within in
-    let g = given (a .limit) (a .gap) (a .sizes .now) (before st) (sym (verdict (c .before .before .before .before .before .before .before .before .before .before .before .before .before .before .before .before .before .before .before .before .before .before .before .before .before .before .before)) ∙ c .before .before .before .before .before .before .before .before .before .before .before .before .before .before .before .before .before .before .before .before .before .before .before .before .before .enum-told .given .1) in
-    omega (arith, g .0 .few, lines-few (a .limit) (a .gap) (a .minimum) (a .sizes .now) (before st) _ (d .result) (d .ensures))
+    let d = c .before .before .before .before .before .before .divide-lent in
+    let g = given (a .limit) (a .gap) (now (a .sizes)) (before st) (sym (verdict (c .before .before .before .before .before .before .before .before .before .before .before .before)) ∙ c .before .before .before .before .before .before .before .before .before .before .enum-told .given .1) in
+    omega (arith, g .0 .few, lines-few (a .limit) (a .gap) (a .minimum) (now (a .sizes)) (before st) (lent (d .last .1 .1 .1 .1 .0) (d .last .1 .1 .1 .1 .1 .0) (d .last .1 .1 .1 .1 .1 .1 .0)) (d .result) (d .ensures))
 
 returns : tie.Need-returns
 returns c =
-    let st = c .before .before .before .before .before .before .before .before .before .before .before .before .before .before .before .before in
+    let st = c .before .before .before .before .before .before .before .before .before .before in
     let a = st .args in
-    call-refused (a .limit) (a .gap) (a .minimum) (a .sizes .now) (before st) (c .before .why .given .0 .0) (sym (verdict (c .before .before .before)) ∙ c .before .why .given .1)
+    call-refused (a .limit) (a .gap) (a .minimum) (now (a .sizes)) (before st) (c .before .why .given .0 .0) (sym (verdict (c .before .before .before)) ∙ c .before .why .given .1)
 
 same-length : tie.Need-same-length
 same-length c = search needs
@@ -72,47 +68,26 @@ same-length-2 c = search needs
 same-length-3 : tie.Need-same-length-3
 same-length-3 c = search needs
 
-same-length-4 : tie.Need-same-length-4
-same-length-4 c = search needs
-
-same-length-5 : tie.Need-same-length-5
-same-length-5 c = search needs
-
-same-length-6 : tie.Need-same-length-6
-same-length-6 c = search needs
-
-same-length-7 : tie.Need-same-length-7
-same-length-7 c = search needs
-
-same-length-8 : tie.Need-same-length-8
-same-length-8 c = search needs
-
 returns-2 : tie.Need-returns-2
 returns-2 c =
-    let st = c .before .before .before .before .before .before .before .before .before .before .before .before .before .before .before .before .before .before .before .before .before .before .before .before .before .before .before .before .before .before .before .before .before .before .before .before .before .before .before .before in
+    let st = c .before .before .before .before .before .before .before .before .before .before .before .before .before .before .before .before .before .before .before in
     let a = st .args in
-    let d = c .before .before .before .before .before .before .before .before .before .before .before .before .before .before .before .before .divide-within in
-    call-accepted (a .limit) (a .gap) (a .minimum) (a .sizes .now) (before st) (d .result) _ (sym (verdict (c .before .before .before .before .before .before .before .before .before .before .before .before .before .before .before .before .before .before .before .before .before .before .before .before .before .before .before)) ∙ c .before .before .before .before .before .before .before .before .before .before .before .before .before .before .before .before .before .before .before .before .before .before .before .before .before .enum-told .given .1) (d .ensures)
+    let d = c .before .before .before .before .before .before .divide-lent in
+    call-accepted (a .limit) (a .gap) (a .minimum) (now (a .sizes)) (before st) (d .result) (lent (d .last .1 .1 .1 .1 .0) (d .last .1 .1 .1 .1 .1 .0) (d .last .1 .1 .1 .1 .1 .1 .0)) (sym (verdict (c .before .before .before .before .before .before .before .before .before .before .before .before)) ∙ c .before .before .before .before .before .before .before .before .before .before .enum-told .given .1) (d .ensures)
 
 pub balanced-spec : {M : Type 1} → statement M
 balanced-spec =
     tie.close
     (tie.spec
-    shortest-requires
     has-room-requires
     no-mark-requires
     check-breaking-requires
     enum-known-why
     enum-told
-    divide-within-requires
-    cast-t43
+    divide-lent-requires
+    cast-t24
     returns
     same-length
     same-length-2
     same-length-3
-    same-length-4
-    same-length-5
-    same-length-6
-    same-length-7
-    same-length-8
     returns-2)

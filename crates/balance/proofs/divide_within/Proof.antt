@@ -5,19 +5,20 @@ use native.Mathlib.Omega.{arith}
 use lib.ListN.{length}
 use lib.Seq.{length-take-le}
 use borrow.Author.Needs.{needs}
-use Rattle.balance.specs.Calls.{Lent, lent}
-use Rattle.balance.proofs.Call.{Room, room-of, square-small, divides}
+use Rattle.balance.specs.Calls.{lent}
+use Rattle.balance.specs.Parts.{Lists, lists, Room}
+use Rattle.balance.proofs.Call.{square-small, searches}
 use Rattle.balance.proofs.divide_within.Statement.{statement}
 use Rattle.balance.proofs.divide_within.Tie as tie
 
--- the lists as they are lent, and the room that they have
-abbrev before : tie.Start → Lent
+-- the lists, and the room that they have
+abbrev before : tie.Start → Lists
 before st =
     let a = st .args in
-    lent (a .counts .now) (a .opts .now) (a .fit .now) (a .greedy .now) (a .reach .now) (a .sums .now) (a .prev .now) (a .cur .now)
+    lists (a .counts .now) (a .opts .now) (a .fit .now) (a .greedy .now) (a .reach .now) (a .sums .now) (a .prev .now) (a .cur .now)
 
 room : (st : tie.Start) → Room (length (st .args .sizes .now)) (before st)
-room st = room-of (length (st .args .sizes .now)) (before st) (st .pre .1)
+room st = st .pre .1
 
 mul-cells : tie.Need-mul-cells
 mul-cells c = omega (arith, square-small (length (c .before .before .before .before .before .before .before .before .before .args .sizes .now)) (c .before .before .before .before .before .before .before .before .before .pre .0 .few))
@@ -119,9 +120,10 @@ returns c =
     let a = st .args in
     let d = c .before .before .before .before .before .before .before .before .before .before .before .before .before .before .before .before .divide in
     let e = d .ensures .1 in
-    divides (a .limit) (a .gap) (a .minimum) (a .sizes .now) (before st) (d .result)
-    (d .last .1 .1 .1 .1 .0) (d .last .1 .1 .1 .1 .1 .0) (d .last .1 .1 .1 .1 .1 .1 .0) (d .last .1 .1 .1 .1 .1 .1 .1 .0) (d .last .1 .1 .1 .1 .1 .1 .1 .1 .0) (d .last .1 .1 .1 .1 .1 .1 .1 .1 .1 .0) (d .last .1 .1 .1 .1 .1 .1 .1 .1 .1 .1 .0) (d .last .1 .1 .1 .1 .1 .1 .1 .1 .1 .1 .1 .0)
-    (room st) (d .ensures .0) (e .0) (e .1) (e .2) (e .3) (e .4) (e .5) (e .6)
+    let r = room st in
+    searches (a .limit) (a .gap) (a .minimum) (a .sizes .now) (lent (a .counts .now) (a .opts .now) (a .sums .now)) (d .result)
+    (d .last .1 .1 .1 .1 .0) (d .last .1 .1 .1 .1 .1 .0) (d .last .1 .1 .1 .1 .1 .1 .1 .1 .1 .0)
+    (r .opts) (r .sums) (d .ensures .0) (e .0) (e .4)
 
 pub divide-within-spec : {M : Type 1} → statement M
 divide-within-spec =

@@ -3,7 +3,7 @@ use mathlib.Core.Path.{_≡_, sym, ap, _∙_}
 use lib.ListN.{length, take}
 use denote.Ref.{now}
 use Rattle.itemtable.specs.Table.{itemsIn}
-use Rattle.wrapping.specs.Wrapping as wrapping
+use Rattle.balance.specs.Calls as balance
 use Rattle.wrapping.specs.Outer.{outerSizes}
 use Rattle.wrapping.proofs.Given.{sizes-long, sizes-lent}
 use Rattle.breakstage.proofs.BreakLaws.{breaks-as, broken-as}
@@ -39,7 +39,7 @@ slice-aggregate-break-lines c = let a = c .before .before .before .before .befor
 break-lines-requires : tie.Need-break-lines-requires
 break-lines-requires c κs = let s = c .before .before .before .before .before .before .before .before .before .before .before .before .before .before in
     let a = s .args in
-    breaks-as (wrapping.lent (now (a .counts)) (now (a .work)) (now (a .sums))) (c .before .before .before .before .before .before .mode-of .ensures) (c .before .before .before .before .before .space-of .ensures) (c .before .before .before .before .clean .ensures) (sizes (c .before .before .before .before .before .before .before .before)) (sizes-long (now (a .table)) (a .n)) (s .pre .breakable) (s .pre .room)
+    breaks-as (balance.lent (now (a .counts)) (now (a .work)) (now (a .sums))) (c .before .before .before .before .before .before .mode-of .ensures) (c .before .before .before .before .before .space-of .ensures) (c .before .before .before .before .clean .ensures) (sizes (c .before .before .before .before .before .before .before .before)) (sizes-long (now (a .table)) (a .n)) (s .pre .breakable) (s .pre .room)
 
 same-length : tie.Need-same-length
 same-length c = c .before .before .before .before .before .before .break-lines .kept .1 .1 .1 .1 .1 .0
@@ -52,7 +52,7 @@ same-length-3 c = c .before .before .before .before .before .before .break-lines
 
 returns : tie.Need-returns
 returns c = let a = c .before .before .before .before .before .before .before .before .before .before .before .before .before .before .before .before .before .before .before .before .before .args in
-    broken-as (wrapping.lent (now (a .counts)) (now (a .work)) (now (a .sums))) (c .before .before .before .before .before .before .before .before .before .before .before .before .before .mode-of .ensures) (c .before .before .before .before .before .before .before .before .before .before .before .before .space-of .ensures) (c .before .before .before .before .before .before .before .before .before .before .before .clean .ensures) (sizes (c .before .before .before .before .before .before .before .before .before .before .before .before .before .before .before)) (c .before .before .before .before .before .before .break-lines .ensures)
+    broken-as (balance.lent (now (a .counts)) (now (a .work)) (now (a .sums))) (c .before .before .before .before .before .before .before .before .before .before .before .before .before .mode-of .ensures) (c .before .before .before .before .before .before .before .before .before .before .before .before .space-of .ensures) (c .before .before .before .before .before .before .before .before .before .before .before .clean .ensures) (sizes (c .before .before .before .before .before .before .before .before .before .before .before .before .before .before .before)) (c .before .before .before .before .before .before .break-lines .ensures)
 
 pub break-items-spec : {M : Type 1} → statement M
 break-items-spec =

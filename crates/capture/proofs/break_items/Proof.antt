@@ -16,21 +16,6 @@ slice-aggregate-balanced c = search needs
 slice-aggregate-balanced-2 : tie.Need-slice-aggregate-balanced-2
 slice-aggregate-balanced-2 c = search needs
 
-slice-aggregate-balanced-3 : tie.Need-slice-aggregate-balanced-3
-slice-aggregate-balanced-3 c = search needs
-
-slice-aggregate-balanced-4 : tie.Need-slice-aggregate-balanced-4
-slice-aggregate-balanced-4 c = search needs
-
-slice-aggregate-balanced-5 : tie.Need-slice-aggregate-balanced-5
-slice-aggregate-balanced-5 c = search needs
-
-slice-aggregate-balanced-6 : tie.Need-slice-aggregate-balanced-6
-slice-aggregate-balanced-6 c = search needs
-
-slice-aggregate-balanced-7 : tie.Need-slice-aggregate-balanced-7
-slice-aggregate-balanced-7 c = search needs
-
 balanced-requires : tie.Need-balanced-requires
 balanced-requires c κs = search needs
 
@@ -42,22 +27,13 @@ same-length c = search needs
 
 returns : tie.Need-returns
 returns c =
-    let a = c .before .before .before .before .before .before .before .before .before .before .before .before .before .before .before .before .before .before .before .before .before .args in
-    let p = c .before .before .before .before .before .before .before .before .before .before .before .before .before .before .before .before .before .before .before .before .before .pre in
-    let b = c .before .before .before .before .before .before .before .before .before .before .balanced in
+    let a = c .before .before .before .before .before .before .before .before .before .before .before .args in
+    let p = c .before .before .before .before .before .before .before .before .before .before .before .pre in
+    let b = c .before .before .before .before .before .balanced in
     subst (λ (r : Reply). ByVerdict (verdictOf (a .head) (now (a .sizes))) (a .head) (now (a .sizes)) (now (a .counts)) r (b .last .1 .1 .1 .1 .0))
     (sym (c .reply-of .ensures))
     (breaks (a .head) (now (a .sizes)) _ _ (b .result) (p .0)
-    (record {
-      counts-room = p .1;
-      opts-room = length-replicate {A = ℕ} 4096 0;
-      fit-room = refl;
-      greedy-room = refl;
-      reach-room = refl;
-      sums-room = refl;
-      prev-room = refl;
-      cur-room = refl;
-    })
+    (record { counts-room = p .1; work-room = length-replicate {A = ℕ} 4288 0; sums-room = refl })
     (b .ensures))
 
 pub break-items-spec : {M : Type 1} → statement M
@@ -66,11 +42,6 @@ break-items-spec =
     (tie.spec
     slice-aggregate-balanced
     slice-aggregate-balanced-2
-    slice-aggregate-balanced-3
-    slice-aggregate-balanced-4
-    slice-aggregate-balanced-5
-    slice-aggregate-balanced-6
-    slice-aggregate-balanced-7
     balanced-requires
     reply-of-requires
     same-length

@@ -7,6 +7,7 @@ use Rattle.feeding.specs.Machine.{Ready}
 use Rattle.feeding.specs.declared.Reader.{Reader}
 use Rattle.feeding.proofs.Sound.{ready-less}
 use Rattle.feeding.proofs.Whole.{started-sound}
+use Rattle.wall.proofs.Turns.{turn-ready, turn-full}
 use Rattle.wall.proofs.main.Statement.{statement}
 use Rattle.wall.proofs.main.Tie as tie
 
@@ -39,7 +40,7 @@ loop-again c =
     let t = c .before .before .before .before .before .before .loop .turns in
     let e = c .before .before .before .read-some .ensures in
     let v = c .before .before .before .before .before .before .loop .inv in
-    (e .ready 0 (ready-less (65536 + 0) (65536 * t) (omega arith) (v .0)), e .full ∙ v .1)
+    (turn-ready _ _ _ _ e 0 (ready-less (65536 + 0) (65536 * t) (omega arith) (v .0)), turn-full _ _ _ _ e ∙ v .1)
 
 sub-turns : tie.Need-sub-turns Inv-loop μ-loop
 sub-turns c = omega arith
@@ -52,7 +53,7 @@ loop-again-2 c =
     let t = c .before .before .before .before .before .before .loop .turns in
     let e = c .before .before .before .read-some .ensures in
     let v = c .before .before .before .before .before .before .loop .inv in
-    (e .ready (65536 * (t - 1)) (ready-less (65536 + 65536 * (t - 1)) (65536 * t) (omega arith) (v .0)), e .full ∙ v .1)
+    (turn-ready _ _ _ _ e (65536 * (t - 1)) (ready-less (65536 + 65536 * (t - 1)) (65536 * t) (omega arith) (v .0)), turn-full _ _ _ _ e ∙ v .1)
 
 slice-aggregate-answer : tie.Need-slice-aggregate-answer Inv-loop μ-loop
 slice-aggregate-answer c = sym (c .before .before .loop .inv .1)

@@ -1,11 +1,8 @@
 -- `wall::read_some` meets its contract: a read gives at most 65,536 bytes. Assumes nothing.
-use mathlib.Core.Path.{ap, _∙_}
-use Prim.Native.Nat.{_+_}
+use mathlib.Core.Path.{sym}
 use native.Mathlib.Omega.{arith}
-use lib.ListN.{length}
-use denote.Ref.{now}
-use Rattle.feeding.specs.Machine.{Fed, withSizes}
-use Rattle.feeding.proofs.Sound.{feed-ready, ready-less, fed-room}
+use lib.ListN.{take}
+use lib.Seq.{length-take-le}
 use borrow.Author.Needs.{needs}
 use Rattle.wall.proofs.read_some.Statement.{statement}
 use Rattle.wall.proofs.read_some.Tie as tie
@@ -36,11 +33,10 @@ feed-requires c κs = search needs
 
 returns : tie.Need-returns
 returns c =
-    let a = c .before .before .before .before .before .before .before .before .before .args in
-    record {
-      ready = λ n h. feed-ready (withSizes (a .reader) (now (a .sizes))) _ n (c .feed .ensures) (ready-less _ (65536 + n) (omega (arith, c .before .before .before .count .ensures .0 .0, c .before .before .before .count .ensures .0 .1)) h);
-      full = ap (λ (f : Fed). length (f .sizes)) (c .feed .ensures) ∙ fed-room _ (withSizes (a .reader) (now (a .sizes)));
-    }
+    let n = c .before .before .before .count .result in
+    let buffer = c .before .before .before .before .before .before .read .last .1 .0 in
+    let taken = length-take-le n buffer (search needs) in
+    record { burst = take n buffer; bytes-are = sym taken; few = omega (arith, taken, c .before .before .before .count .ensures .0 .0, c .before .before .before .count .ensures .0 .1); fed-is = c .feed .ensures }
 
 pub read-some-spec : {M : Type 1} → statement M
 read-some-spec =

@@ -2,7 +2,7 @@
 use Prim.Native.Nat.{_≤_}
 use lib.ListN.{length}
 use denote.Ref.{now}
-use Rattle.wrapping.specs.Wrapping.{Lent, lent}
+use Rattle.balance.specs.Calls.{Lent, lent}
 use Rattle.wrapping.proofs.Modes.{room-counts, room-balanced, single-wrapped, greedy-wrapped, balanced-wrapped}
 use borrow.Author.Needs.{needs}
 use Rattle.wrapping.proofs.break_lines.Statement.{statement}
@@ -34,8 +34,8 @@ greedy-checked-requires c κs =
 enum-told-3 : tie.Need-enum-told-3
 enum-told-3 c = search needs
 
-balanced-lines-requires : tie.Need-balanced-lines-requires
-balanced-lines-requires c κs =
+divide-lent-requires : tie.Need-divide-lent-requires
+divide-lent-requires c κs =
     let st = c .before .before .before .before .before .before .before .before .before in
     (st .pre .0, room-balanced (st .args .mode) (length (now (st .args .sizes))) (before st) (c .before .before .before .enum-told3 .given .1) (st .pre .1))
 
@@ -70,7 +70,7 @@ returns-3 : tie.Need-returns-3
 returns-3 c =
     let st = c .before .before .before .before .before .before .before .before .before .before .before .before .before .before .before .before in
     let a = st .args in
-    let l = c .before .before .before .before .before .before .balanced-lines in
+    let l = c .before .before .before .before .before .before .divide-lent in
     balanced-wrapped (a .limit) (a .gap) (a .minimum) (now (a .sizes)) (a .mode) (c .before .before .before .before .before .before .before .before .before .before .enum-told3 .given .1) (before st) (l .result) (lent (l .last .1 .1 .1 .1 .0) (l .last .1 .1 .1 .1 .1 .0) (l .last .1 .1 .1 .1 .1 .1 .0)) (l .ensures)
 
 pub break-lines-spec : {M : Type 1} → statement M
@@ -82,7 +82,7 @@ break-lines-spec =
     enum-told-2
     greedy-checked-requires
     enum-told-3
-    balanced-lines-requires
+    divide-lent-requires
     same-length
     returns
     same-length-2

@@ -1,4 +1,4 @@
--- `clear_sums` meets its contract: the cells from `from` up to i are 0, the others as they were (by the laws of breaking's counts). Assumes nothing.
+-- `balance::clear_sums` meets its contract: the cells from `from` up to i are 0, the others as they were (by the laws of breaking's counts). Assumes nothing.
 use mathlib.Core.Path.{_≡_, refl, ap, _∙_}
 use Prim.Native.Nat.{ℕ, _-_, _≤_, _<_}
 use native.Mathlib.Nat.{le-antisymm}
@@ -10,8 +10,8 @@ use denote.Ref.{now}
 use borrow.Author.Needs.{scaled-fits}
 use Rattle.breaking.specs.Steps.{filled}
 use Rattle.breaking.proofs.Counts.{fill-none, fill-more}
-use Rattle.wrapping.proofs.clear_sums.Statement.{statement}
-use Rattle.wrapping.proofs.clear_sums.Tie as tie
+use Rattle.balance.proofs.clear_sums.Statement.{statement}
+use Rattle.balance.proofs.clear_sums.Tie as tie
 
 -- 0.0
 abbrev zero64 : Float

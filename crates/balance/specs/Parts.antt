@@ -1,0 +1,51 @@
+-- What only the contracts of the call's parts cite: the search reads some lists while it writes others, so it takes eight, five of them the frame's. Assumes nothing.
+use mathlib.Core.Path.{_≡_}
+use mathlib.Core.List.{List}
+use Prim.Native.Nat.{ℕ, _+_, _*_, _≤_}
+use lib.ListN.{length}
+use lib.Ieee.{Float}
+use Rattle.grid.specs.Grid.{sixtyFourths}
+use Rattle.breaklimit.specs.declared.AvailableSpace.{AvailableSpace}
+use Rattle.breaking.specs.Breaking.{limitOf}
+use Rattle.breaking.specs.Calls.{units, written}
+use Rattle.rule.specs.Rule.{Balanced}
+use Rattle.balance.specs.Calls.{Lent, lent, zeroed, zeroedF}
+
+-- the room of the lent lists for n items, as the checks show it
+abbrev pub Roomy : ℕ → Lent → Type 0
+Roomy n l = (n ≤ length (l .counts)) × (n * n + 3 * n ≤ length (l .work)) × (3 * n ≤ length (l .sums))
+
+-- the lists of the search
+pub record Lists : Type 0 where
+  pub counts : List ℕ
+  pub opts : List ℕ
+  pub fit : List ℕ
+  pub greedy : List ℕ
+  pub reach : List ℕ
+  pub sums : List Float
+  pub prev : List Float
+  pub cur : List Float
+
+abbrev pub lists : List ℕ → List ℕ → List ℕ → List ℕ → List ℕ → List Float → List Float → List Float → Lists
+lists counts opts fit greedy reach sums prev cur = record { counts = counts; opts = opts; fit = fit; greedy = greedy; reach = reach; sums = sums; prev = prev; cur = cur }
+
+-- n of each, and n * n of opts
+pub record Room (n : ℕ) (l : Lists) : Type 0 where
+  pub counts : n ≤ length (l .counts)
+  pub opts : n * n ≤ length (l .opts)
+  pub fit : n ≤ length (l .fit)
+  pub greedy : n ≤ length (l .greedy)
+  pub reach : n ≤ length (l .reach)
+  pub sums : n ≤ length (l .sums)
+  pub prev : n ≤ length (l .prev)
+  pub cur : n ≤ length (l .cur)
+
+-- what the search leaves in the lists that a caller lends: the counts, and what it wrote of the work cells cleared
+abbrev pub searched : ℕ → List ℕ → Lent → Lent
+searched n lines b = lent (written n lines (b .counts)) (zeroed (n * n) (b .work)) (zeroedF n (b .sums))
+
+pub record Searched (limit : AvailableSpace) (gap : Float) (minimum : ℕ) (sizes : List Float) (before : Lent) (lines : ℕ) (after : Lent) : Type 0 where
+  pub division : List ℕ
+  pub balanced : Balanced (limitOf limit) (sixtyFourths gap) (units sizes) minimum division
+  pub lines-are : lines ≡ length division
+  pub cells : after ≡ searched (length sizes) division before
