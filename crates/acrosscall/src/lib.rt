@@ -10,6 +10,7 @@ ghost use Rattle.acrosscall.specs.AcrossCall.{acrossInput, result, acros
 use crossaxis::cross_axis;
 use crosschecks::lengths;
 use crosschecks::marks;
+use grid::whole::larger;
 use refusal::Answer;
 use refusal::Kind;
 use refusal::Verdict;
@@ -17,7 +18,6 @@ use refusal::judge;
 use refusal::least;
 use refusal::shapes::has_room;
 use refusal::shapes::is_alike;
-use refusal::shapes::longer;
 use single::mark_code;
 use single::mark_float;
 
@@ -51,7 +51,7 @@ fn check_across_shape(
         end,
         auto_start,
         auto_end,
-        longer(alignment, longer(auto_size, 0)),
+        larger(alignment, larger(auto_size, 0)),
     );
     let alike = lengths::are_alike(
         measured,

@@ -1,6 +1,6 @@
 // Cells and small numbers: what every stage of balanced breaking reads and writes with. No entry points.
 ghost use mathlib.Core.Path.{_≡_};
-ghost use Prim.Native.Nat.{_-_, _<_, min, max};
+ghost use Prim.Native.Nat.{_-_, _<_};
 ghost use lib.ListN.{length, getD};
 
 pub mod sums; // sums.rt: sums of the items, and the sizes of lines from them
@@ -18,18 +18,6 @@ pub fn or_zero(a: &[u32], i: usize) -> u32
     ensures { λ r. ⌜ r ≡ getD (now (a .entry)) i 0 ⌝ }
 {
     if i < a.len() { a[i] } else { 0 }
-}
-
-pub fn smaller(a: usize, b: usize) -> usize
-    ensures { λ r. ⌜ r ≡ min a b ⌝ }
-{
-    if a < b { a } else { b }
-}
-
-pub fn larger(a: usize, b: usize) -> usize
-    ensures { λ r. ⌜ r ≡ max a b ⌝ }
-{
-    if a < b { b } else { a }
 }
 
 pub fn less_one(x: usize) -> usize

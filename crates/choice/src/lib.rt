@@ -8,10 +8,10 @@ ghost use Rattle.choice.specs.Cells.{costF, zeroF, FirstPlain, LeastOf, 
 ghost use mathlib.Core.Path.{_≡_};
 ghost use Prim.Native.Nat.{_+_, _≤_, _<_};
 use cells::at;
-use cells::larger;
-use cells::smaller;
 use cells::sums;
 use cells::sums::Units;
+use grid::whole::larger;
+use grid::whole::smaller;
 
 // The total of line scores: squares of whole sixty-fourths.
 pub struct Score(pub f64);

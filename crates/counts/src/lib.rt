@@ -10,14 +10,14 @@ ghost use Rattle.counts.specs.Reading.{Readable, ReadOut};
 ghost use Rattle.counts.specs.Run.{BalanceIn, BalanceOut, RunIn, RunOut};
 use breaking::clear_counts;
 use cells::at;
-use cells::larger;
-use cells::smaller;
 use cells::sums::Units;
 use fitting::Cap;
 use fitting::fit_ends;
 use fitting::forward;
 use fitting::pixels::add_up;
 use fitting::suffix_greedy;
+use grid::whole::larger;
+use grid::whole::smaller;
 use rows::first_row;
 use rows::rows;
 

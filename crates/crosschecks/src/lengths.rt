@@ -3,8 +3,8 @@ ghost use mathlib.Core.Path.{_≡_};
 ghost use mathlib.Core.Bool.{_&&_};
 ghost use Prim.Native.Nat.{max};
 ghost use lib.Dec.{eqb};
+use grid::whole::larger;
 use refusal::shapes::is_alike;
-use refusal::shapes::longer;
 
 // The longest of a line's nine lists and the rest.
 pub fn longest_list(
@@ -21,19 +21,19 @@ pub fn longest_list(
 ) -> usize
     ensures { λ r. ⌜ r ≡ max measured (max minimum (max maximum (max capped (max edges (max start (max end (max «auto_start» (max «auto_end» rest)))))))) ⌝ }
 {
-    longer(
+    larger(
         measured,
-        longer(
+        larger(
             minimum,
-            longer(
+            larger(
                 maximum,
-                longer(
+                larger(
                     capped,
-                    longer(
+                    larger(
                         edges,
-                        longer(
+                        larger(
                             start,
-                            longer(end, longer(auto_start, longer(auto_end, rest))),
+                            larger(end, larger(auto_start, larger(auto_end, rest))),
                         ),
                     ),
                 ),

@@ -5,10 +5,10 @@ ghost use Rattle.fitting.specs.Tables.{fitsF, StretchOut, FitsOut, FitRa
 ghost use mathlib.Core.Path.{_≡_};
 ghost use Prim.Native.Nat.{_+_, _≤_, _<_};
 use cells::at;
-use cells::larger;
 use cells::or_zero;
 use cells::sums::Units;
 use cells::sums::line_size;
+use grid::whole::larger;
 
 pub mod pixels;
 

@@ -9,6 +9,7 @@ ghost use Rattle.refusal.specs.Shapes as shapes;
 ghost use Rattle.flexing.specs.Items.{lists};
 ghost use Rattle.flexing.specs.Accepted.{Even};
 ghost use Rattle.flexchecks.specs.Input.{shapeOf, plainAt, inputOf};
+use grid::whole::larger;
 use marking::lists::mark_beside;
 use marking::mark_floats;
 use refusal::Kind;
@@ -18,7 +19,6 @@ use refusal::least;
 use refusal::no_mark;
 use refusal::shapes::has_room;
 use refusal::shapes::is_alike;
-use refusal::shapes::longer;
 use single::mark_float;
 
 pub mod lines;
@@ -40,21 +40,21 @@ fn check_lengths(
 ) -> Verdict
     ensures { λ r. ⌜ r ≡ shapes.shapeOf (base ∷ minimum ∷ maximum ∷ «has_maximum» ∷ edges ∷ grow ∷ shrink ∷ start ∷ end ∷ «auto_start» ∷ «auto_end» ∷ []) (room ∷ []) base ⌝ }
 {
-    let longest = longer(
+    let longest = larger(
         base,
-        longer(
+        larger(
             minimum,
-            longer(
+            larger(
                 maximum,
-                longer(
+                larger(
                     has_maximum,
-                    longer(
+                    larger(
                         edges,
-                        longer(
+                        larger(
                             grow,
-                            longer(
+                            larger(
                                 shrink,
-                                longer(start, longer(end, longer(auto_start, longer(auto_end, 0)))),
+                                larger(start, larger(end, larger(auto_start, larger(auto_end, 0)))),
                             ),
                         ),
                     ),

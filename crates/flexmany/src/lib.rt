@@ -1,6 +1,6 @@
 // The call that flexes many lines, on any bits: checks 1 to 6, and then each line flexed by its own items (document 01, "Flexible lengths").
 ghost use mathlib.Core.Path.{_≡_};
-ghost use Prim.Native.Nat.{_*_, _≤_, min};
+ghost use Prim.Native.Nat.{_*_, _≤_};
 ghost use lib.ListN.{length};
 ghost use Rattle.grid.specs.Grid.{cleaned};
 ghost use Rattle.refusal.specs.Domain.{summed};
@@ -10,16 +10,11 @@ ghost use Rattle.itemtable.specs.Table.{itemIn, itemsIn};
 ghost use Rattle.flexlines.specs.Parts.{Divided};
 ghost use Rattle.flexmany.specs.Lines.{AnsweredLines, FlexedByLine};
 ghost use Rattle.flexmany.specs.Parts.{CheckedLines};
+use grid::whole::smaller;
 use itemtable::read_items;
 use itemtable::sum::outer_sum;
 use refusal::Answer;
 use refusal::Verdict;
-
-fn shorter(a: usize, b: usize) -> usize
-    ensures { λ r. ⌜ r ≡ min a b ⌝ }
-{
-    if a < b { a } else { b }
-}
 
 // Check 6 of items that are read, and, where it passes, their lines flexed.
 fn flex_lines_read<'a>(
@@ -228,7 +223,7 @@ pub fn flex_lines<'a>(
         end,
         auto_start,
         auto_end,
-        shorter(targets.len(), shorter(free.len(), rounds.len())),
+        smaller(targets.len(), smaller(free.len(), rounds.len())),
     );
     match v {
         Verdict::Refused(why) => Answer::Refused(why),

@@ -8,6 +8,7 @@ ghost use lib.Ieee.Scale.{finite};
 ghost use Rattle.grid.specs.Grid.{At, zeroPx, onGrid, Length, sixtyFourths, cleaned};
 
 pub mod floats; // floats.rt: f32 as the definitions write it
+pub mod whole; // whole.rt: the smaller and the larger of two lengths
 
 // Whole sixty-fourths of a pixel. Pixels are plain floats, so neither can stand where the other is meant.
 pub struct Sixtyfourths(pub i32);

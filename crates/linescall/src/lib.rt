@@ -11,6 +11,7 @@ use crossaxis::lines;
 use crosschecks::numbers::CrossNumbers;
 use crosschecks::numbers::cross_of;
 use crosschecks::numbers::mark_cross;
+use grid::whole::larger;
 use marking::lists::mark_list;
 use refusal::Kind;
 use refusal::Refusal;
@@ -19,7 +20,6 @@ use refusal::judge;
 use refusal::least;
 use refusal::shapes::has_room;
 use refusal::shapes::is_alike;
-use refusal::shapes::longer;
 use single::mark_code;
 
 pub enum LinesAnswer {
@@ -33,7 +33,7 @@ fn check_lines_shape(n: usize, sizes: usize, offsets: usize) -> Verdict
     ensures { λ r. ⌜ r ≡ shapeOf (n ∷ []) (sizes ∷ offsets ∷ []) n ⌝ }
 {
     refusal::check_shape(
-        longer(n, 0),
+        larger(n, 0),
         has_room(n, sizes, has_room(n, offsets, is_alike(n, n, true))),
     )
 }

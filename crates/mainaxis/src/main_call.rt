@@ -8,6 +8,7 @@ ghost use Rattle.mainaxis.specs.MainAxis.{line, Even};
 ghost use Rattle.refusal.specs.Shapes.{shapeOf};
 ghost use Rattle.mainaxis.specs.MainCall.{containerNumbers, mainInput, result, mainCall};
 use crate::main_axis;
+use grid::whole::larger;
 use marking::lists::mark_beside;
 use marking::lists::mark_list;
 use refusal::Answer;
@@ -18,7 +19,6 @@ use refusal::judge;
 use refusal::least;
 use refusal::shapes::has_room;
 use refusal::shapes::is_alike;
-use refusal::shapes::longer;
 use single::mark_code;
 use single::mark_float;
 
@@ -35,9 +35,9 @@ fn check_main_shape(
 ) -> Verdict
     ensures { λ r. ⌜ r ≡ shapeOf (n ∷ start ∷ end ∷ «auto_start» ∷ «auto_end» ∷ []) (offsets ∷ «used_start» ∷ «used_end» ∷ []) n ⌝ }
 {
-    let longest = longer(
+    let longest = larger(
         n,
-        longer(start, longer(end, longer(auto_start, longer(auto_end, 0)))),
+        larger(start, larger(end, larger(auto_start, larger(auto_end, 0)))),
     );
     let even = is_alike(
         n,

@@ -1,14 +1,7 @@
-// Checks 1 and 2, list by list: the longest input list, lists of one length, and room in the lent ones.
+// Checks 1 and 2, list by list: lists of one length, and room in the lent ones.
 ghost use mathlib.Core.Path.{_≡_};
 ghost use mathlib.Core.Bool.{_&&_};
-ghost use Prim.Native.Nat.{max};
 ghost use lib.Dec.{eqb, leb};
-
-pub fn longer(a: usize, b: usize) -> usize
-    ensures { λ r. ⌜ r ≡ max a b ⌝ }
-{
-    if a < b { b } else { a }
-}
 
 // Whether one length more is n.
 pub fn is_alike(len: usize, n: usize, rest: bool) -> bool

@@ -9,14 +9,14 @@ ghost use Rattle.fitting.specs.Tables.{Falling, FirstFor};
 ghost use Rattle.rows.specs.Program.{RowSafe, RowBase, OneRow, RowsSoFar};
 ghost use mathlib.Core.Path.{_≡_};
 use cells::at;
-use cells::larger;
 use cells::less_one;
-use cells::smaller;
 use cells::sums::Units;
 use cells::sums::base;
 use cells::sums::line_size;
 use choice::cost;
 use choice::pick;
+use grid::whole::larger;
+use grid::whole::smaller;
 
 // Fills the starts from `lo` up to `hi` of a row: the middle one by its choice, and the two halves by calls of itself, each with the ends
 // that its starts may still need, of those from `from` up to `to`. No line ends past `last`.

@@ -3,11 +3,11 @@ use borrow.Author.Needs.{needs}
 use Rattle.acrosscall.proofs.check_across_shape.Statement.{statement}
 use Rattle.acrosscall.proofs.check_across_shape.Tie as tie
 
-longer-requires : tie.Need-longer-requires
-longer-requires c κs = search needs
+larger-requires : tie.Need-larger-requires
+larger-requires c κs = search needs
 
-longer-requires-2 : tie.Need-longer-requires-2
-longer-requires-2 c κs = search needs
+larger-requires-2 : tie.Need-larger-requires-2
+larger-requires-2 c κs = search needs
 
 longest-list-requires : tie.Need-longest-list-requires
 longest-list-requires c κs = search needs
@@ -37,14 +37,14 @@ check-shape-requires : tie.Need-check-shape-requires
 check-shape-requires c κs = search needs
 
 returns : tie.Need-returns
-returns c = rw (c .check-shape .ensures, c .before .has-room4 .ensures, c .before .before .has-room3 .ensures, c .before .before .before .has-room2 .ensures, c .before .before .before .before .has-room .ensures, c .before .before .before .before .before .are-alike .ensures, c .before .before .before .before .before .before .is-alike2 .ensures, c .before .before .before .before .before .before .before .is-alike .ensures, c .before .before .before .before .before .before .before .before .longest-list .ensures, c .before .before .before .before .before .before .before .before .before .longer2 .ensures, c .before .before .before .before .before .before .before .before .before .before .longer .ensures)
+returns c = rw (c .check-shape .ensures, c .before .has-room4 .ensures, c .before .before .has-room3 .ensures, c .before .before .before .has-room2 .ensures, c .before .before .before .before .has-room .ensures, c .before .before .before .before .before .are-alike .ensures, c .before .before .before .before .before .before .is-alike2 .ensures, c .before .before .before .before .before .before .before .is-alike .ensures, c .before .before .before .before .before .before .before .before .longest-list .ensures, c .before .before .before .before .before .before .before .before .before .larger2 .ensures, c .before .before .before .before .before .before .before .before .before .before .larger .ensures)
 
 pub check-across-shape-spec : {M : Type 1} → statement M
 check-across-shape-spec =
     tie.close
     (tie.spec
-    longer-requires
-    longer-requires-2
+    larger-requires
+    larger-requires-2
     longest-list-requires
     is-alike-requires
     is-alike-requires-2

@@ -8,38 +8,38 @@ use borrow.Author.Needs.{needs}
 use Rattle.flexchecks.proofs.check_lengths.Statement.{statement}
 use Rattle.flexchecks.proofs.check_lengths.Tie as tie
 
-longer-requires : tie.Need-longer-requires
-longer-requires c κs = search needs
+larger-requires : tie.Need-larger-requires
+larger-requires c κs = search needs
 
-longer-requires-2 : tie.Need-longer-requires-2
-longer-requires-2 c κs = search needs
+larger-requires-2 : tie.Need-larger-requires-2
+larger-requires-2 c κs = search needs
 
-longer-requires-3 : tie.Need-longer-requires-3
-longer-requires-3 c κs = search needs
+larger-requires-3 : tie.Need-larger-requires-3
+larger-requires-3 c κs = search needs
 
-longer-requires-4 : tie.Need-longer-requires-4
-longer-requires-4 c κs = search needs
+larger-requires-4 : tie.Need-larger-requires-4
+larger-requires-4 c κs = search needs
 
-longer-requires-5 : tie.Need-longer-requires-5
-longer-requires-5 c κs = search needs
+larger-requires-5 : tie.Need-larger-requires-5
+larger-requires-5 c κs = search needs
 
-longer-requires-6 : tie.Need-longer-requires-6
-longer-requires-6 c κs = search needs
+larger-requires-6 : tie.Need-larger-requires-6
+larger-requires-6 c κs = search needs
 
-longer-requires-7 : tie.Need-longer-requires-7
-longer-requires-7 c κs = search needs
+larger-requires-7 : tie.Need-larger-requires-7
+larger-requires-7 c κs = search needs
 
-longer-requires-8 : tie.Need-longer-requires-8
-longer-requires-8 c κs = search needs
+larger-requires-8 : tie.Need-larger-requires-8
+larger-requires-8 c κs = search needs
 
-longer-requires-9 : tie.Need-longer-requires-9
-longer-requires-9 c κs = search needs
+larger-requires-9 : tie.Need-larger-requires-9
+larger-requires-9 c κs = search needs
 
-longer-requires-10 : tie.Need-longer-requires-10
-longer-requires-10 c κs = search needs
+larger-requires-10 : tie.Need-larger-requires-10
+larger-requires-10 c κs = search needs
 
-longer-requires-11 : tie.Need-longer-requires-11
-longer-requires-11 c κs = search needs
+larger-requires-11 : tie.Need-larger-requires-11
+larger-requires-11 c κs = search needs
 
 is-alike-requires : tie.Need-is-alike-requires
 is-alike-requires c κs = search needs
@@ -83,17 +83,17 @@ check-shape-requires c κs = search needs
 returns : tie.Need-returns
 returns c =
     let a = c .before .before .before .before .before .before .before .before .before .before .before .before .before .before .before .before .before .before .before .before .before .before .before .before .args in
-    let m1 = c .before .before .before .before .before .before .before .before .before .before .before .before .before .before .before .before .before .before .before .before .before .before .before .longer .ensures in
-    let m2 = c .before .before .before .before .before .before .before .before .before .before .before .before .before .before .before .before .before .before .before .before .before .before .longer2 .ensures ∙ ap (max (a .auto-start)) m1 in
-    let m3 = c .before .before .before .before .before .before .before .before .before .before .before .before .before .before .before .before .before .before .before .before .before .longer3 .ensures ∙ ap (max (a .end)) m2 in
-    let m4 = c .before .before .before .before .before .before .before .before .before .before .before .before .before .before .before .before .before .before .before .before .longer4 .ensures ∙ ap (max (a .start)) m3 in
-    let m5 = c .before .before .before .before .before .before .before .before .before .before .before .before .before .before .before .before .before .before .before .longer5 .ensures ∙ ap (max (a .shrink)) m4 in
-    let m6 = c .before .before .before .before .before .before .before .before .before .before .before .before .before .before .before .before .before .before .longer6 .ensures ∙ ap (max (a .grow)) m5 in
-    let m7 = c .before .before .before .before .before .before .before .before .before .before .before .before .before .before .before .before .before .longer7 .ensures ∙ ap (max (a .edges)) m6 in
-    let m8 = c .before .before .before .before .before .before .before .before .before .before .before .before .before .before .before .before .longer8 .ensures ∙ ap (max (a .has-maximum)) m7 in
-    let m9 = c .before .before .before .before .before .before .before .before .before .before .before .before .before .before .before .longer9 .ensures ∙ ap (max (a .maximum)) m8 in
-    let m10 = c .before .before .before .before .before .before .before .before .before .before .before .before .before .before .longer10 .ensures ∙ ap (max (a .minimum)) m9 in
-    let m11 = c .before .before .before .before .before .before .before .before .before .before .before .before .before .longer11 .ensures ∙ ap (max (a .base)) m10 in
+    let m1 = c .before .before .before .before .before .before .before .before .before .before .before .before .before .before .before .before .before .before .before .before .before .before .before .larger .ensures in
+    let m2 = c .before .before .before .before .before .before .before .before .before .before .before .before .before .before .before .before .before .before .before .before .before .before .larger2 .ensures ∙ ap (max (a .auto-start)) m1 in
+    let m3 = c .before .before .before .before .before .before .before .before .before .before .before .before .before .before .before .before .before .before .before .before .before .larger3 .ensures ∙ ap (max (a .end)) m2 in
+    let m4 = c .before .before .before .before .before .before .before .before .before .before .before .before .before .before .before .before .before .before .before .before .larger4 .ensures ∙ ap (max (a .start)) m3 in
+    let m5 = c .before .before .before .before .before .before .before .before .before .before .before .before .before .before .before .before .before .before .before .larger5 .ensures ∙ ap (max (a .shrink)) m4 in
+    let m6 = c .before .before .before .before .before .before .before .before .before .before .before .before .before .before .before .before .before .before .larger6 .ensures ∙ ap (max (a .grow)) m5 in
+    let m7 = c .before .before .before .before .before .before .before .before .before .before .before .before .before .before .before .before .before .larger7 .ensures ∙ ap (max (a .edges)) m6 in
+    let m8 = c .before .before .before .before .before .before .before .before .before .before .before .before .before .before .before .before .larger8 .ensures ∙ ap (max (a .has-maximum)) m7 in
+    let m9 = c .before .before .before .before .before .before .before .before .before .before .before .before .before .before .before .larger9 .ensures ∙ ap (max (a .maximum)) m8 in
+    let m10 = c .before .before .before .before .before .before .before .before .before .before .before .before .before .before .larger10 .ensures ∙ ap (max (a .minimum)) m9 in
+    let m11 = c .before .before .before .before .before .before .before .before .before .before .before .before .before .larger11 .ensures ∙ ap (max (a .base)) m10 in
     let q1 = c .before .before .before .before .before .before .before .before .before .before .before .before .is-alike .ensures in
     let q2 = c .before .before .before .before .before .before .before .before .before .before .before .is-alike2 .ensures ∙ ap (λ (b : Bool). eqb (a .auto-start) (a .base) && b) q1 in
     let q3 = c .before .before .before .before .before .before .before .before .before .before .is-alike3 .ensures ∙ ap (λ (b : Bool). eqb (a .end) (a .base) && b) q2 in
@@ -111,17 +111,17 @@ pub check-lengths-spec : {M : Type 1} → statement M
 check-lengths-spec =
     tie.close
     (tie.spec
-    longer-requires
-    longer-requires-2
-    longer-requires-3
-    longer-requires-4
-    longer-requires-5
-    longer-requires-6
-    longer-requires-7
-    longer-requires-8
-    longer-requires-9
-    longer-requires-10
-    longer-requires-11
+    larger-requires
+    larger-requires-2
+    larger-requires-3
+    larger-requires-4
+    larger-requires-5
+    larger-requires-6
+    larger-requires-7
+    larger-requires-8
+    larger-requires-9
+    larger-requires-10
+    larger-requires-11
     is-alike-requires
     is-alike-requires-2
     is-alike-requires-3

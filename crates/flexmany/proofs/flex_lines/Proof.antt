@@ -31,13 +31,13 @@ verdict s k = then (linesShape (now (s .args .counts)) (given s) k) (judged (lea
 
 -- what they said
 said : (c : tie.After-check-lines) → verdict (start-of c) (room (start-of c)) ≡ c .check-lines .result
-said c = ap (λ (k : ℕ). verdict (start-of c) k) (sym (c .before .shorter2 .ensures ∙ ap (λ (k : ℕ). min (length (now (start-of c .args .targets))) k) (c .before .before .shorter .ensures))) ∙ sym (c .check-lines .ensures)
+said c = ap (λ (k : ℕ). verdict (start-of c) k) (sym (c .before .smaller2 .ensures ∙ ap (λ (k : ℕ). min (length (now (start-of c .args .targets))) k) (c .before .before .smaller .ensures))) ∙ sym (c .check-lines .ensures)
 
-shorter-requires : tie.Need-shorter-requires
-shorter-requires c κs = search needs
+smaller-requires : tie.Need-smaller-requires
+smaller-requires c κs = search needs
 
-shorter-requires-2 : tie.Need-shorter-requires-2
-shorter-requires-2 c κs = search needs
+smaller-requires-2 : tie.Need-smaller-requires-2
+smaller-requires-2 c κs = search needs
 
 check-lines-requires : tie.Need-check-lines-requires
 check-lines-requires c κs = search needs
@@ -80,8 +80,8 @@ pub flex-lines-spec : {M : Type 1} → statement M
 flex-lines-spec =
     tie.close
     (tie.spec
-    shorter-requires
-    shorter-requires-2
+    smaller-requires
+    smaller-requires-2
     check-lines-requires
     enum-known-v
     enum-told
