@@ -5,3 +5,4 @@ pub mod SizesLaws
 pub mod Exists
 pub mod Bridge
 pub mod Zeros
+pub mod Totals
