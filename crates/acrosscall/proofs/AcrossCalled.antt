@@ -16,13 +16,15 @@ use Rattle.refusal.specs.Domain.{float, code, checked, then, asAnswer}
 use Rattle.refusal.specs.Marks.{mark, leastOf, leastUpTo, judged}
 use Rattle.refusal.specs.Shapes.{shapeOf}
 use Rattle.refusal.proofs.Marked.{container-two, judged-is, shaped}
-use Rattle.linesize.specs.CrossSize.{Items, count, Even}
-use Rattle.crossaxis.specs.CrossAxis.{Sorted, Room, Across}
+use Rattle.linesize.specs.CrossSize.{Items, count}
+use Rattle.linesize.specs.Parts.{OneLength}
+use Rattle.crossaxis.specs.CrossAxis.{Across}
+use Rattle.crossaxis.specs.Parts.{SameLengths, Room}
 use Rattle.crosschecks.specs.Numbers.{acrossNumbersAt}
 use Rattle.acrosscall.specs.AcrossCall.{acrossInput, lengths, acrossVerdict, AcrossResult, result, acrossInto, acrossCall}
 
 module _ (line : Float) (reversed : ℕ) (ls : Items) (alignment auto-size : List ℕ) where
-  pub across-checked : {x y a k m : ℕ} {v : Verdict} → Sorted ls alignment auto-size → x ≡ mark (float Worked line) 0 → y ≡ mark (code 1 reversed) 0 → a ≡ min x y
+  pub across-checked : {x y a k m : ℕ} {v : Verdict} → SameLengths ls alignment auto-size → x ≡ mark (float Worked line) 0 → y ≡ mark (code 1 reversed) 0 → a ≡ min x y
       → k ≡ leastUpTo (λ i. leastOf (acrossNumbersAt ls alignment auto-size i) (i + 1)) (count ls) → m ≡ min a k → v ≡ judged m → v ≡ checked (acrossInput line reversed ls alignment auto-size) Passed
   across-checked e px py pa pk pm pv = pv ∙ ap judged (pm ∙ ap₂ min (pa ∙ ap₂ min px py ∙ container-two (float Worked line) (code 1 reversed)) pk) ∙ judged-is (acrossInput line reversed ls alignment auto-size) (e .even .few)
 
@@ -34,12 +36,12 @@ module _ (line : Float) (reversed : ℕ) (ls : Items) (alignment auto-size : Lis
     Shaped v = v ≡ shapeOf (lengths ls alignment auto-size) (length z ∷ length s ∷ length e ∷ length o ∷ []) (count ls)
 
     -- a passed shape: the lists are even, and there is room
-    pub across-sorted : {v : Verdict} → Shaped v → v ≡ Passed → Sorted ls alignment auto-size × Room (count ls) z s e o
+    pub across-sorted : {v : Verdict} → Shaped v → v ≡ Passed → SameLengths ls alignment auto-size × Room (count ls) z s e o
     across-sorted p h =
         let rest = length (ls .minimum) ∷ length (ls .maximum) ∷ length (ls .capped) ∷ length (ls .edges) ∷ length (ls .start) ∷ length (ls .end) ∷ length (ls .auto-start) ∷ length (ls .auto-end) ∷ length alignment ∷ length auto-size ∷ [] in
         let q = shaped (count ls) rest rooms (sym p ∙ h) in
         let l = q .1 in
-        let even : Even ls = record {
+        let even : OneLength ls = record {
           few = q .0;
           minimum = l .0;
           maximum = l .1 .0;

@@ -5,7 +5,7 @@ ghost use Rattle.refusal.specs.Domain.{checked};
 ghost use Rattle.refusal.specs.declared.Verdict.the-variants.{Passed};
 ghost use Rattle.refusal.specs.Shapes.{shapeOf};
 ghost use Rattle.linesize.specs.CrossSize.{items};
-ghost use Rattle.crossaxis.specs.CrossAxis.{Sorted};
+ghost use Rattle.crossaxis.specs.Parts.{SameLengths};
 ghost use Rattle.acrosscall.specs.AcrossCall.{acrossInput, result, acrossCall};
 use crossaxis::cross_axis;
 use crosschecks::lengths;
@@ -88,7 +88,7 @@ fn check_across_numbers<'a>(
     alignment: &'a [u32],
     auto_size: &'a [u32],
 ) -> Verdict
-    requires { ⌜ Sorted (items (now measured) (now minimum) (now maximum) (now capped) (now edges) (now start) (now end) (now «auto_start») (now «auto_end»)) (now alignment) (now «auto_size») ⌝ }
+    requires { ⌜ SameLengths (items (now measured) (now minimum) (now maximum) (now capped) (now edges) (now start) (now end) (now «auto_start») (now «auto_end»)) (now alignment) (now «auto_size») ⌝ }
     ensures { λ r. ⌜ r ≡ checked (acrossInput line reversed (items (now (measured .entry)) (now (minimum .entry)) (now (maximum .entry)) (now (capped .entry)) (now (edges .entry)) (now (start .entry)) (now (end .entry)) (now («auto_start» .entry)) (now («auto_end» .entry))) (now (alignment .entry)) (now («auto_size» .entry))) Passed ⌝ }
 {
     let container = least(mark_float(Kind::Worked, line, 0), mark_code(1, reversed, 0));

@@ -10,7 +10,8 @@ use Rattle.align.specs.declared.SelfAlignment.{SelfAlignment}
 use Rattle.linesize.specs.declared.cross_size.CrossItem.{CrossItem}
 use Rattle.crossaxis.specs.declared.cross_axis.CrossPlace.{CrossPlace}
 use Rattle.align.specs.Lists.{overwritten}
-use Rattle.crossaxis.specs.CrossAxis.{placedItem, Room}
+use Rattle.crossaxis.specs.CrossAxis.{placedItem}
+use Rattle.crossaxis.specs.Parts.{Room}
 use Rattle.align.proofs.Each.{written-none, written-turn, written-length}
 
 pub placed-same : (reversed auto-size : Bool) {x y : Float} {a b : CrossItem} {s t : SelfAlignment} → x ≡ y → a ≡ b → s ≡ t → placedItem x reversed a s auto-size ≡ placedItem y reversed b t auto-size

@@ -2,8 +2,8 @@
 use mathlib.Core.Path.{_≡_}
 use mathlib.Core.Bool.{Bool, true, false, cond, not, _&&_, _||_}
 use mathlib.Core.List.{List}
-use Prim.Native.Nat.{ℕ, _≤_}
-use lib.ListN.{length, getD}
+use Prim.Native.Nat.{ℕ}
+use lib.ListN.{getD}
 use lib.Ieee.{Float}
 use Rattle.grid.specs.Grid.{cleaned}
 use Rattle.align.specs.declared.SelfAlignment.{SelfAlignment}
@@ -13,7 +13,7 @@ use Rattle.crossaxis.specs.declared.cross_axis.CrossPlace.{CrossPlace}
 use Rattle.grid.specs.Floats.{_⊕_, _⊖_, _⊘_, nought, two}
 use Rattle.align.specs.Align.{selfOf, selfOffset}
 use Rattle.align.specs.Lists.{overwritten}
-use Rattle.linesize.specs.CrossSize.{clamp, hypothetical, margins, Items, count, Even, itemAt, yes}
+use Rattle.linesize.specs.CrossSize.{clamp, hypothetical, margins, Items, count, itemAt, yes}
 
 abbrev pub isStretch : SelfAlignment → Bool
 isStretch (Unsafe p) = false
@@ -58,18 +58,6 @@ placedItem line reversed it alignment auto-size =
     record { size = cleaned size; start = cleaned (startMargin free it); end = cleaned (endMargin free it); offset = cleaned (crossOffset free reversed it alignment) }
 
 -- ---- the items in lists
-
--- the codes of `align-self`, and of an auto cross size, beside the items
-pub record Sorted (ls : Items) (alignment auto-size : List ℕ) : Type 0 where
-  pub even : Even ls
-  pub alignment-length : length alignment ≡ count ls
-  pub auto-length : length auto-size ≡ count ls
-
-pub record Room (n : ℕ) (sizes starts ends offsets : List Float) : Type 0 where
-  pub sizes-room : n ≤ length sizes
-  pub starts-room : n ≤ length starts
-  pub ends-room : n ≤ length ends
-  pub offsets-room : n ≤ length offsets
 
 abbrev pub placedAt : Float → Bool → Items → List ℕ → List ℕ → ℕ → CrossPlace
 placedAt line reversed ls alignment auto-size i = placedItem (cleaned line) reversed (itemAt ls i) (selfOf (getD alignment i 0)) (yes auto-size i)

@@ -8,8 +8,9 @@ use Rattle.refusal.specs.Domain.{Number}
 use Rattle.refusal.specs.Lists.{floatAt, codeAt, besideAt}
 use Rattle.refusal.specs.Marks.{leastOf, leastUpTo}
 use Rattle.refusal.proofs.Marked.{items-append}
-use Rattle.linesize.specs.CrossSize.{Items, count, Even}
-use Rattle.crossaxis.specs.CrossAxis.{Sorted}
+use Rattle.linesize.specs.CrossSize.{Items, count}
+use Rattle.linesize.specs.Parts.{OneLength}
+use Rattle.crossaxis.specs.Parts.{SameLengths}
 use Rattle.crosschecks.specs.Numbers.{crossNumbersAt, acrossNumbersAt}
 
 -- the least mark of the first n items, of which item i has the numbers f i
@@ -20,7 +21,7 @@ both : (f g : ℕ → List Number) {n k a b r : ℕ} → k ≡ n → a ≡ sever
 both f g {n} e p q h = h ∙ ap₂ min (p ∙ ap (several f) e) q ∙ sym (items-append f g n)
 
 module _ (ls : Items) where
-  pub items-marked : Even ls → {m l e h s t a b c d r : ℕ} → m ≡ several (floatAt Size (ls .measured)) (length (ls .measured)) → l ≡ several (floatAt Size (ls .minimum)) (length (ls .minimum))
+  pub items-marked : OneLength ls → {m l e h s t a b c d r : ℕ} → m ≡ several (floatAt Size (ls .measured)) (length (ls .measured)) → l ≡ several (floatAt Size (ls .minimum)) (length (ls .minimum))
       → e ≡ several (floatAt Size (ls .edges)) (length (ls .edges)) → h ≡ several (besideAt Size 1 (ls .maximum) (ls .capped)) (length (ls .maximum))
       → s ≡ several (besideAt Margin 0 (ls .start) (ls .auto-start)) (length (ls .start)) → t ≡ several (besideAt Margin 0 (ls .end) (ls .auto-end)) (length (ls .end))
       → a ≡ min s t → b ≡ min h a → c ≡ min e b → d ≡ min l c → r ≡ min m d → r ≡ several (crossNumbersAt ls) (count ls)
@@ -37,7 +38,7 @@ module _ (ls : Items) where
       let qd = both L (λ i. E i ++ (H i ++ (S i ++ T i))) (v .minimum) pl qc pd in
       both M (λ i. L i ++ (E i ++ (H i ++ (S i ++ T i)))) refl pm qd pr
 
-  pub across-marked : (alignment auto-size : List ℕ) → Sorted ls alignment auto-size → {k g u a r : ℕ} → k ≡ several (crossNumbersAt ls) (count ls) → g ≡ several (codeAt 10 alignment) (length alignment)
+  pub across-marked : (alignment auto-size : List ℕ) → SameLengths ls alignment auto-size → {k g u a r : ℕ} → k ≡ several (crossNumbersAt ls) (count ls) → g ≡ several (codeAt 10 alignment) (length alignment)
       → u ≡ several (codeAt 1 auto-size) (length auto-size) → a ≡ min g u → r ≡ min k a → r ≡ several (acrossNumbersAt ls alignment auto-size) (count ls)
   across-marked alignment auto-size v pk pg pu pa pr =
       let G = codeAt 10 alignment in

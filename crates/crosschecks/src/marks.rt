@@ -3,8 +3,9 @@ ghost use mathlib.Core.Path.{_≡_};
 ghost use Prim.Native.Nat.{_+_};
 ghost use lib.ListN.{length};
 ghost use Rattle.refusal.specs.Marks.{leastOf, leastUpTo};
-ghost use Rattle.linesize.specs.CrossSize.{items, Even};
-ghost use Rattle.crossaxis.specs.CrossAxis.{Sorted};
+ghost use Rattle.linesize.specs.CrossSize.{items};
+ghost use Rattle.linesize.specs.Parts.{OneLength};
+ghost use Rattle.crossaxis.specs.Parts.{SameLengths};
 ghost use Rattle.crosschecks.specs.Numbers.{crossNumbersAt, acrossNumbersAt};
 use marking::lists::mark_beside;
 use marking::lists::mark_code_list;
@@ -25,7 +26,7 @@ pub fn mark_cross_items<'a>(
     auto_start: &'a [u32],
     auto_end: &'a [u32],
 ) -> Mark
-    requires { ⌜ Even (items (now measured) (now minimum) (now maximum) (now capped) (now edges) (now start) (now end) (now «auto_start») (now «auto_end»)) ⌝ }
+    requires { ⌜ OneLength (items (now measured) (now minimum) (now maximum) (now capped) (now edges) (now start) (now end) (now «auto_start») (now «auto_end»)) ⌝ }
     ensures { λ r. ⌜ r .0 ≡ leastUpTo (λ i. leastOf (crossNumbersAt (items (now (measured .entry)) (now (minimum .entry)) (now (maximum .entry)) (now (capped .entry)) (now (edges .entry)) (now (start .entry)) (now (end .entry)) (now («auto_start» .entry)) (now («auto_end» .entry))) i) (i + 1)) (length (now (measured .entry))) ⌝ }
 {
     let sizes = mark_list(Kind::Size, measured);
@@ -54,7 +55,7 @@ pub fn mark_across<'a>(
     alignment: &'a [u32],
     auto_size: &'a [u32],
 ) -> Mark
-    requires { ⌜ Sorted (items (now measured) (now minimum) (now maximum) (now capped) (now edges) (now start) (now end) (now «auto_start») (now «auto_end»)) (now alignment) (now «auto_size») ⌝ }
+    requires { ⌜ SameLengths (items (now measured) (now minimum) (now maximum) (now capped) (now edges) (now start) (now end) (now «auto_start») (now «auto_end»)) (now alignment) (now «auto_size») ⌝ }
     ensures { λ r. ⌜ r .0 ≡ leastUpTo (λ i. leastOf (acrossNumbersAt (items (now (measured .entry)) (now (minimum .entry)) (now (maximum .entry)) (now (capped .entry)) (now (edges .entry)) (now (start .entry)) (now (end .entry)) (now («auto_start» .entry)) (now («auto_end» .entry))) (now (alignment .entry)) (now («auto_size» .entry)) i) (i + 1)) (length (now (measured .entry))) ⌝ }
 {
     let numbers = mark_cross_items(

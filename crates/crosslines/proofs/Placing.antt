@@ -11,10 +11,12 @@ use borrow.Author.Count.{below-none, below-more}
 use borrow.Rule.Slice.PartMut.{midOf, putMid, mid-len}
 use Rattle.flexlines.specs.Lines.{lineStart, part}
 use Rattle.linesize.specs.CrossSize.{Items, count}
-use Rattle.crossaxis.specs.CrossAxis.{Sorted, Room, Across}
+use Rattle.crossaxis.specs.CrossAxis.{Across}
+use Rattle.crossaxis.specs.Parts.{SameLengths, Room}
 use Rattle.bylines.specs.Parts.{Division}
 use Rattle.sizelines.specs.Sizes.{crossLine}
-use Rattle.crosslines.specs.Cross.{AcrossReady, AcrossLines}
+use Rattle.crosslines.specs.Cross.{AcrossLines}
+use Rattle.crosslines.specs.Parts.{AcrossReady}
 use Rattle.bylines.proofs.Parted.{Here, start-none, start-next, ends-within, lent-is, Front, front-none, step, front-next, past-of, all-cells, same-parts}
 use Rattle.sizelines.proofs.Sizing.{lentItems, lent-items, Inside, inside-of, lent-even}
 
@@ -32,7 +34,7 @@ pub record Turn (ls : Items) (alignment auto-size : List ℕ) (sizes starts ends
 
 -- the stage's own requirements
 module _ {ls : Items} {alignment auto-size : List ℕ} {sizes starts ends offsets : List Float} {from to : ℕ} (t : Turn ls alignment auto-size sizes starts ends offsets from to) where
-  pub lent-sorted : Sorted (lentItems from to ls) (midOf from (to - from) alignment) (midOf from (to - from) auto-size)
+  pub lent-sorted : SameLengths (lentItems from to ls) (midOf from (to - from) alignment) (midOf from (to - from) auto-size)
   lent-sorted =
       let n = mid-len from to (ls .measured) (t .inside .in-measured) in
       record { even = lent-even (t .inside); alignment-length = mid-len from to alignment (t .in-alignment) ∙ sym n; auto-length = mid-len from to auto-size (t .in-auto-size) ∙ sym n }

@@ -1,21 +1,14 @@
 -- Document 01, "Cross axis", line by line: each line's items across it. Assumes nothing.
 use mathlib.Core.Bool.{Bool}
 use mathlib.Core.List.{List, []}
-use Prim.Native.Nat.{ℕ, _≤_, _<_}
+use Prim.Native.Nat.{ℕ, _<_}
 use lib.ListN.{length, getD}
 use lib.Ieee.{Float, nan}
 use Rattle.linesize.specs.CrossSize.{Items, count}
-use Rattle.crossaxis.specs.CrossAxis.{Sorted, Room, Across}
+use Rattle.crossaxis.specs.CrossAxis.{Across}
 use Rattle.flexlines.specs.Lines.{part}
-use Rattle.bylines.specs.Parts.{Division, Past}
+use Rattle.bylines.specs.Parts.{Past}
 use Rattle.sizelines.specs.Sizes.{crossLine}
-
--- what the pass's checks show: the lines have the items of the lists, each line has a size, and there is room for the items
-pub record AcrossReady (counts : List ℕ) (lines : List Float) (ls : Items) (alignment auto-size : List ℕ) (sizes starts ends offsets : List Float) : Type 0 where
-  pub sorted : Sorted ls alignment auto-size
-  pub division : Division counts (count ls)
-  pub sized : length counts ≤ length lines
-  pub room : Room (count ls) sizes starts ends offsets
 
 -- the lent cells after the walk, beside those before it
 pub record AcrossLines (reversed : Bool) (counts : List ℕ) (lines : List Float) (ls : Items) (alignment auto-size : List ℕ) (sizes₀ starts₀ ends₀ offsets₀ sizes starts ends offsets : List Float) : Type 0 where

@@ -1,1 +1,2 @@
 pub mod Cross
+pub mod Parts

@@ -1,6 +1,7 @@
 // The items across their lines, line by line: each line is lent its own parts of the lists. No entry point: the pass checks before it walks.
 ghost use Rattle.linesize.specs.CrossSize.{items};
-ghost use Rattle.crosslines.specs.Cross.{AcrossReady, AcrossLines};
+ghost use Rattle.crosslines.specs.Cross.{AcrossLines};
+ghost use Rattle.crosslines.specs.Parts.{AcrossReady};
 use crossaxis::cross_axis::place_items;
 
 // CSS-FLEX 9.6 of every line, each in its own size: no entry point, since the lines have the items of the lists, and there is room.

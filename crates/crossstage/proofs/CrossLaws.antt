@@ -15,8 +15,10 @@ use Rattle.grid.specs.Floats.{nought, each}
 use Rattle.linesize.specs.declared.container.Cross.{Cross}
 use Rattle.linesize.specs.CrossSize.{Items, lineOf}
 use Rattle.crossaxis.specs.Lines.{Aligned}
-use Rattle.sizelines.specs.Sizes.{crossLine, SizesReady, crossSizes}
-use Rattle.crosslines.specs.Cross.{AcrossReady, AcrossLines}
+use Rattle.sizelines.specs.Sizes.{crossLine, crossSizes}
+use Rattle.sizelines.specs.Parts.{SizesReady}
+use Rattle.crosslines.specs.Cross.{AcrossLines}
+use Rattle.crosslines.specs.Parts.{AcrossReady}
 use Rattle.sizelines.proofs.Sizing.{sizes-front}
 use Rattle.container.specs.declared.Container.{Container}
 use Rattle.container.specs.Columns.{column, crossItems, alignSelf, autoSize, zeros}

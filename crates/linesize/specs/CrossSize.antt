@@ -1,8 +1,7 @@
 -- Document 01, "Cross axis", first half: the size of a line from its items. Assumes nothing.
-use mathlib.Core.Path.{_≡_}
 use mathlib.Core.Bool.{Bool, cond, not}
 use mathlib.Core.List.{List}
-use Prim.Native.Nat.{ℕ, zero, suc, _≤_}
+use Prim.Native.Nat.{ℕ, zero, suc}
 use lib.Dec.{eqb}
 use lib.ListN.{length, getD}
 use lib.Ieee.{Float, nan}
@@ -54,18 +53,6 @@ items m l h k e s t p q = record { measured = m; minimum = l; maximum = h; cappe
 
 abbrev pub count : Items → ℕ
 count ls = length (ls .measured)
-
--- the lists are of one length, of at most 1,024
-pub record Even (ls : Items) : Type 0 where
-  pub few : count ls ≤ 1024
-  pub minimum : length (ls .minimum) ≡ count ls
-  pub maximum : length (ls .maximum) ≡ count ls
-  pub capped : length (ls .capped) ≡ count ls
-  pub edges : length (ls .edges) ≡ count ls
-  pub start : length (ls .start) ≡ count ls
-  pub end : length (ls .end) ≡ count ls
-  pub auto-start : length (ls .auto-start) ≡ count ls
-  pub auto-end : length (ls .auto-end) ≡ count ls
 
 -- a code is yes where it is not 0
 abbrev pub yes : List ℕ → ℕ → Bool

@@ -2,7 +2,8 @@
 ghost use mathlib.Core.Path.{_≡_};
 ghost use Prim.Native.Nat.{_<_};
 ghost use lib.ListN.{length};
-ghost use Rattle.linesize.specs.CrossSize.{clamp, orNought, margins, outerSize, readItem, items, Even, itemAt, largestOuter, lineSize, lineOf};
+ghost use Rattle.linesize.specs.CrossSize.{clamp, orNought, margins, outerSize, readItem, items, itemAt, largestOuter, lineSize, lineOf};
+ghost use Rattle.linesize.specs.Parts.{OneLength};
 use crate::container;
 use crate::container::Cross;
 use grid::floats::lower;
@@ -81,7 +82,7 @@ pub fn item_at<'a>(
     auto_end: &'a [u32],
     i: usize,
 ) -> CrossItem
-    requires { ⌜ Even (items (now measured) (now minimum) (now maximum) (now capped) (now edges) (now start) (now end) (now «auto_start») (now «auto_end»)) ⌝ }
+    requires { ⌜ OneLength (items (now measured) (now minimum) (now maximum) (now capped) (now edges) (now start) (now end) (now «auto_start») (now «auto_end»)) ⌝ }
     requires { ⌜ i < length (now measured) ⌝ }
     ensures { λ r. ⌜ r ≡ itemAt (items (now (measured .entry)) (now (minimum .entry)) (now (maximum .entry)) (now (capped .entry)) (now (edges .entry)) (now (start .entry)) (now (end .entry)) (now («auto_start» .entry)) (now («auto_end» .entry))) i ⌝ }
 {
@@ -113,7 +114,7 @@ fn largest_outer<'a>(
     auto_start: &'a [u32],
     auto_end: &'a [u32],
 ) -> f32
-    requires { ⌜ Even (items (now measured) (now minimum) (now maximum) (now capped) (now edges) (now start) (now end) (now «auto_start») (now «auto_end»)) ⌝ }
+    requires { ⌜ OneLength (items (now measured) (now minimum) (now maximum) (now capped) (now edges) (now start) (now end) (now «auto_start») (now «auto_end»)) ⌝ }
     ensures { λ r. ⌜ r ≡ largestOuter (items (now (measured .entry)) (now (minimum .entry)) (now (maximum .entry)) (now (capped .entry)) (now (edges .entry)) (now (start .entry)) (now (end .entry)) (now («auto_start» .entry)) (now («auto_end» .entry))) ⌝ }
 {
     let mut most = 0.0;
@@ -161,7 +162,7 @@ pub fn calculate_cross_size<'a>(
     auto_start: &'a [u32],
     auto_end: &'a [u32],
 ) -> f32
-    requires { ⌜ Even (items (now measured) (now minimum) (now maximum) (now capped) (now edges) (now start) (now end) (now «auto_start») (now «auto_end»)) ⌝ }
+    requires { ⌜ OneLength (items (now measured) (now minimum) (now maximum) (now capped) (now edges) (now start) (now end) (now «auto_start») (now «auto_end»)) ⌝ }
     ensures { λ r. ⌜ r ≡ lineOf c (items (now (measured .entry)) (now (minimum .entry)) (now (maximum .entry)) (now (capped .entry)) (now (edges .entry)) (now (start .entry)) (now (end .entry)) (now («auto_start» .entry)) (now («auto_end» .entry))) ⌝ }
 {
     let most = largest_outer(

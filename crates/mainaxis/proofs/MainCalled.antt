@@ -15,7 +15,8 @@ use Rattle.refusal.specs.Domain.{checked, then, asAnswer}
 use Rattle.refusal.specs.Marks.{leastOf, leastUpTo, judged}
 use Rattle.align.specs.declared.ContentAlignment.{ContentAlignment}
 use Rattle.align.specs.Align.{contentOf}
-use Rattle.mainaxis.specs.MainAxis.{Line, count, Even, Spaced}
+use Rattle.mainaxis.specs.MainAxis.{Line, count, Spaced}
+use Rattle.mainaxis.specs.Parts.{OneLength}
 use Rattle.refusal.specs.declared.Kind.the-variants.{Margin, Worked}
 use Rattle.refusal.specs.Shapes.{shapeOf}
 use Rattle.refusal.specs.Lists.{floatAt, besideAt}
@@ -27,7 +28,7 @@ content-same {inner} {gap} {reversed = reversed} {l} {o} {s} {e} {o₁} {s₁} {
 
 module _ (inner gap : Float) (justify reversed : ℕ) (l : Line) where
   -- the marks of the container, the targets and each side's margins
-  pub main-checked : {c t s e : ℕ} → Even l → c ≡ leastOf (containerNumbers inner gap justify reversed) 0
+  pub main-checked : {c t s e : ℕ} → OneLength l → c ≡ leastOf (containerNumbers inner gap justify reversed) 0
       → t ≡ leastUpTo (λ i. leastOf (floatAt Worked (l .targets) i) (i + 1)) (count l)
       → s ≡ leastUpTo (λ i. leastOf (besideAt Margin 0 (l .start) (l .auto-start) i) (i + 1)) (length (l .start))
       → e ≡ leastUpTo (λ i. leastOf (besideAt Margin 0 (l .end) (l .auto-end) i) (i + 1)) (length (l .end))
@@ -47,7 +48,7 @@ module _ (inner gap : Float) (justify reversed : ℕ) (l : Line) where
     rooms = length o ∷ length s ∷ length e ∷ []
 
     -- a passed shape: the lists are even, and there is room
-    pub main-even : shapeOf (lengths l) (length o ∷ length s ∷ length e ∷ []) (count l) ≡ Passed → Even l × ((count l ≤ length o) × (count l ≤ length s) × (count l ≤ length e))
+    pub main-even : shapeOf (lengths l) (length o ∷ length s ∷ length e ∷ []) (count l) ≡ Passed → OneLength l × ((count l ≤ length o) × (count l ≤ length s) × (count l ≤ length e))
     main-even p =
         let q = shaped (count l) (length (l .start) ∷ length (l .end) ∷ length (l .auto-start) ∷ length (l .auto-end) ∷ []) rooms p in
         (record { few = q .0; start = q .1 .0; end = q .1 .1 .0; auto-start = q .1 .1 .1 .0; auto-end = q .1 .1 .1 .1 .0 }, (q .2 .0, q .2 .1 .0, q .2 .1 .1 .0))

@@ -10,7 +10,8 @@ use Rattle.grid.specs.Grid.{cleaned}
 use Rattle.align.specs.declared.ContentAlignment.{ContentAlignment}
 use Rattle.align.specs.Lists.{overwritten}
 use Rattle.align.specs.Axis.{marginAt, autos, offsets}
-use Rattle.mainaxis.specs.MainAxis.{Line, count, Even, freeSpace, autoCount, autoShare, justified, Spaced}
+use Rattle.mainaxis.specs.MainAxis.{Line, count, freeSpace, autoCount, autoShare, justified, Spaced}
+use Rattle.mainaxis.specs.Parts.{OneLength}
 use Rattle.align.proofs.Each.{autos-within}
 
 -- no line has more than 2,048 auto margins
@@ -18,7 +19,7 @@ pub autos-few : (auto : List ℕ) {k : ℕ} → length auto ≤ 1024 → k ≡ a
 autos-few auto h e = omega (arith, autos-within auto (length auto))
 
 module _ {inner gap : Float} {justify : ContentAlignment} {reversed : Bool} {l : Line} {free share left step : Float} {n : ℕ} {offsets₀ starts₀ ends₀ offsets₁ starts ends : List Float} where
-  pub spaced : Even l → free ≡ freeSpace inner gap l → n ≡ autoCount l → share ≡ autoShare free n → left ≡ justified free n → step ≡ cleaned gap
+  pub spaced : OneLength l → free ≡ freeSpace inner gap l → n ≡ autoCount l → share ≡ autoShare free n → left ≡ justified free n → step ≡ cleaned gap
       → offsets₁ ≡ overwritten (count l) (offsets left (count l) step justify reversed) offsets₀
       → starts ≡ overwritten (length (l .start)) (marginAt share (l .auto-start) (l .start)) starts₀
       → ends ≡ overwritten (length (l .end)) (marginAt share (l .auto-end) (l .end)) ends₀

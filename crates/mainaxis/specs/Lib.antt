@@ -1,2 +1,3 @@
 pub mod MainAxis
 pub mod MainCall
+pub mod Parts

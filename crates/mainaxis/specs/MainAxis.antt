@@ -2,7 +2,7 @@
 use mathlib.Core.Path.{_≡_}
 use mathlib.Core.Bool.{Bool, cond, _&&_}
 use mathlib.Core.List.{List}
-use Prim.Native.Nat.{ℕ, _+_, _≤_}
+use Prim.Native.Nat.{ℕ, _+_}
 use lib.Dec.{ltb}
 use lib.ListN.{length, getD}
 use lib.Ieee.{Float, nan, lt}
@@ -25,14 +25,6 @@ line t s e p q = record { targets = t; start = s; end = e; auto-start = p; auto-
 
 abbrev pub count : Line → ℕ
 count l = length (l .targets)
-
--- the lists are of one length, of at most 1,024
-pub record Even (l : Line) : Type 0 where
-  pub few : count l ≤ 1024
-  pub start : length (l .start) ≡ count l
-  pub end : length (l .end) ≡ count l
-  pub auto-start : length (l .auto-start) ≡ count l
-  pub auto-end : length (l .auto-end) ≡ count l
 
 -- "each size + (start margin + end margin), auto margins as 0"
 unfoldable pub outer : Float → ℕ → Float → ℕ → Float → Float

@@ -4,7 +4,8 @@ ghost use Prim.Native.Nat.{_≤_};
 ghost use lib.ListN.{length};
 ghost use Rattle.align.specs.Lists.{total};
 ghost use Rattle.align.specs.Axis.{autos};
-ghost use Rattle.mainaxis.specs.MainAxis.{line, Even, outer, outerAt, freeSpace, autoShare, justified, Spaced};
+ghost use Rattle.mainaxis.specs.MainAxis.{line, outer, outerAt, freeSpace, autoShare, justified, Spaced};
+ghost use Rattle.mainaxis.specs.Parts.{OneLength};
 use align::ContentAlignment;
 use align::axis;
 use grid::floats::sum_axis_gaps;
@@ -26,7 +27,7 @@ fn outer_sum<'a>(
     auto_start: &'a [u32],
     auto_end: &'a [u32],
 ) -> f32
-    requires { ⌜ Even (line (now targets) (now start) (now end) (now «auto_start») (now «auto_end»)) ⌝ }
+    requires { ⌜ OneLength (line (now targets) (now start) (now end) (now «auto_start») (now «auto_end»)) ⌝ }
     ensures { λ r. ⌜ r ≡ total (outerAt (line (now (targets .entry)) (now (start .entry)) (now (end .entry)) (now («auto_start» .entry)) (now («auto_end» .entry)))) (length (now (targets .entry))) ⌝ }
 {
     let mut sum = 0.0;
@@ -48,7 +49,7 @@ fn free_space<'a>(
     auto_start: &'a [u32],
     auto_end: &'a [u32],
 ) -> f32
-    requires { ⌜ Even (line (now targets) (now start) (now end) (now «auto_start») (now «auto_end»)) ⌝ }
+    requires { ⌜ OneLength (line (now targets) (now start) (now end) (now «auto_start») (now «auto_end»)) ⌝ }
     ensures { λ r. ⌜ r ≡ freeSpace inner gap (line (now (targets .entry)) (now (start .entry)) (now (end .entry)) (now («auto_start» .entry)) (now («auto_end» .entry))) ⌝ }
 {
     let between = sum_axis_gaps(grid::clean(gap), targets.len());
@@ -114,7 +115,7 @@ pub fn distribute_remaining_free_space<'a>(
     used_start: &mut [f32],
     used_end: &mut [f32],
 )
-    requires { ⌜ Even (line (now targets) (now start) (now end) (now «auto_start») (now «auto_end»)) ⌝ }
+    requires { ⌜ OneLength (line (now targets) (now start) (now end) (now «auto_start») (now «auto_end»)) ⌝ }
     requires { ⌜ (length (now targets) ≤ length (now offsets)) × (length (now targets) ≤ length (now «used_start»)) × (length (now targets) ≤ length (now «used_end»)) ⌝ }
     ensures { λ _. ⌜ Spaced inner gap justify reversed (line (now (targets .entry)) (now (start .entry)) (now (end .entry)) (now («auto_start» .entry)) (now («auto_end» .entry))) (now (offsets .entry)) (now («used_start» .entry)) (now («used_end» .entry)) (now (offsets .exit)) (now («used_start» .exit)) (now («used_end» .exit)) ⌝ }
 {

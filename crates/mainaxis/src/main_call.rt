@@ -4,7 +4,8 @@ ghost use mathlib.Core.List.{[], _∷_};
 ghost use Rattle.refusal.specs.Domain.{checked};
 ghost use Rattle.refusal.specs.Marks.{leastOf};
 ghost use Rattle.refusal.specs.declared.Verdict.the-variants.{Passed};
-ghost use Rattle.mainaxis.specs.MainAxis.{line, Even};
+ghost use Rattle.mainaxis.specs.MainAxis.{line};
+ghost use Rattle.mainaxis.specs.Parts.{OneLength};
 ghost use Rattle.refusal.specs.Shapes.{shapeOf};
 ghost use Rattle.mainaxis.specs.MainCall.{containerNumbers, mainInput, result, mainCall};
 use crate::main_axis;
@@ -81,7 +82,7 @@ fn check_main_numbers<'a>(
     auto_start: &'a [u32],
     auto_end: &'a [u32],
 ) -> Verdict
-    requires { ⌜ Even (line (now targets) (now start) (now end) (now «auto_start») (now «auto_end»)) ⌝ }
+    requires { ⌜ OneLength (line (now targets) (now start) (now end) (now «auto_start») (now «auto_end»)) ⌝ }
     ensures { λ r. ⌜ r ≡ checked (mainInput inner gap justify reversed (line (now (targets .entry)) (now (start .entry)) (now (end .entry)) (now («auto_start» .entry)) (now («auto_end» .entry)))) Passed ⌝ }
 {
     let container = mark_main_container(inner, gap, justify, reversed);

@@ -10,9 +10,11 @@ use borrow.Author.Count.{below-none, below-more}
 use borrow.Rule.Slice.PartMut.{midOf, putMid, mid-len}
 use Rattle.flexlines.specs.Lines.{lineStart, part}
 use Rattle.align.specs.declared.ContentAlignment.{ContentAlignment}
-use Rattle.mainaxis.specs.MainAxis.{Line, line, count, Even, Spaced}
+use Rattle.mainaxis.specs.MainAxis.{Line, line, count, Spaced}
+use Rattle.mainaxis.specs.Parts.{OneLength}
 use Rattle.bylines.specs.Parts.{Division}
-use Rattle.mainlines.specs.Main.{mainLine, MainReady, MainLines}
+use Rattle.mainlines.specs.Main.{mainLine, MainLines}
+use Rattle.mainlines.specs.Parts.{MainReady}
 use Rattle.bylines.proofs.Parted.{Here, start-none, start-next, ends-within, lent-is, Front, front-none, step, front-next, past-of, all-cells, same-parts}
 
 -- ---- one line
@@ -42,7 +44,7 @@ pub record Turn (l : Line) (offsets starts ends : List Float) (from to : ℕ) : 
 
 -- the stage's own requirement
 pub record Lent (l : Line) (offsets starts ends : List Float) : Type 0 where
-  pub even : Even l
+  pub even : OneLength l
   pub room : (length (l .targets) ≤ length offsets) × (length (l .targets) ≤ length starts) × (length (l .targets) ≤ length ends)
 
 pub lent : {l : Line} {offsets starts ends : List Float} {from to : ℕ} → Turn l offsets starts ends from to → Lent (lentLine from to l) (midOf from (to - from) offsets) (midOf from (to - from) starts) (midOf from (to - from) ends)

@@ -1,25 +1,17 @@
 -- Document 01, "Main axis", line by line: each by its own items, as one line is. Assumes nothing.
 use mathlib.Core.Bool.{Bool}
 use mathlib.Core.List.{List, []}
-use Prim.Native.Nat.{ℕ, _≤_, _<_}
+use Prim.Native.Nat.{ℕ, _<_}
 use lib.ListN.{length}
 use lib.Ieee.{Float}
 use Rattle.align.specs.declared.ContentAlignment.{ContentAlignment}
-use Rattle.mainaxis.specs.MainAxis.{Line, line, count, Even, Spaced}
+use Rattle.mainaxis.specs.MainAxis.{Line, line, count, Spaced}
 use Rattle.flexlines.specs.Lines.{part}
-use Rattle.bylines.specs.Parts.{Division, Past}
+use Rattle.bylines.specs.Parts.{Past}
 
 -- the items of line j
 abbrev pub mainLine : List ℕ → ℕ → Line → Line
 mainLine counts j l = line (part counts j (l .targets)) (part counts j (l .start)) (part counts j (l .end)) (part counts j (l .auto-start)) (part counts j (l .auto-end))
-
--- what the pass's checks show: the lines have the items of the lists, and there is room for them
-pub record MainReady (counts : List ℕ) (l : Line) (offsets starts ends : List Float) : Type 0 where
-  pub even : Even l
-  pub division : Division counts (count l)
-  pub offsets-room : count l ≤ length offsets
-  pub starts-room : count l ≤ length starts
-  pub ends-room : count l ≤ length ends
 
 -- the lent cells after the walk, beside those before it
 pub record MainLines (inner gap : Float) (justify : ContentAlignment) (reversed : Bool) (counts : List ℕ) (l : Line) (offsets₀ starts₀ ends₀ offsets starts ends : List Float) : Type 0 where

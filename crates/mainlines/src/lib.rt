@@ -1,6 +1,7 @@
 // The main axis, line by line: each line is lent its own parts of the lists. No entry point: the pass checks before it walks.
 ghost use Rattle.mainaxis.specs.MainAxis.{line};
-ghost use Rattle.mainlines.specs.Main.{MainReady, MainLines};
+ghost use Rattle.mainlines.specs.Main.{MainLines};
+ghost use Rattle.mainlines.specs.Parts.{MainReady};
 use align::ContentAlignment;
 use mainaxis::main_axis::distribute_remaining_free_space;
 

@@ -21,7 +21,8 @@ use Rattle.grid.specs.Floats.{nought}
 use Rattle.align.specs.Align.{contentOf}
 use Rattle.mainaxis.specs.MainAxis.{Line, line}
 use Rattle.bylines.specs.Parts.{Past}
-use Rattle.mainlines.specs.Main.{MainReady, MainLines}
+use Rattle.mainlines.specs.Main.{MainLines}
+use Rattle.mainlines.specs.Parts.{MainReady}
 use Rattle.container.specs.declared.Container.{Container}
 use Rattle.container.specs.Columns.{column, mainLists, zeros, mainItems}
 use Rattle.container.specs.Container.{reversed}

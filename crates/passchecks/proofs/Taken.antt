@@ -9,7 +9,7 @@ use lib.Ieee.{Float}
 use Rattle.flexing.specs.Items.{lists}
 use Rattle.flexing.specs.Accepted.{Even}
 use Rattle.linesize.specs.CrossSize.{items}
-use Rattle.crossaxis.specs.CrossAxis.{Sorted}
+use Rattle.crossaxis.specs.Parts.{SameLengths}
 use Rattle.container.specs.Columns.{column, mainLists, crossItems, alignSelf, autoSize}
 use Rattle.container.specs.Stages.{Inside, Listed}
 use Rattle.container.proofs.ColumnLaws.{before, length-column}
@@ -50,7 +50,7 @@ module _ {n : ℕ} {x : List Float} {c : List ℕ} (t : Listed n x c) where
 
   -- ---- the cross axis
 
-  pub sorted-cross : Sorted (crossItems n x c) (alignSelf n c) (autoSize n c)
+  pub sorted-cross : SameLengths (crossItems n x c) (alignSelf n c) (autoSize n c)
   sorted-cross =
       let b = number-length 8 (omega arith) in
       let number : (k : ℕ) → k < 14 → length (column n k x) ≡ length (column n 8 x) = λ k h. number-length k h ∙ sym b in

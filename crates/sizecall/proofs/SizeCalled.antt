@@ -14,19 +14,20 @@ use Rattle.refusal.specs.Shapes.{shapeOf}
 use Rattle.refusal.proofs.Marked.{judged-is, shaped}
 use Rattle.linesize.specs.declared.container.Cross.{Cross}
 use Rattle.crosschecks.specs.declared.numbers.CrossNumbers.{CrossNumbers}
-use Rattle.linesize.specs.CrossSize.{Items, count, Even, lineOf}
+use Rattle.linesize.specs.CrossSize.{Items, count, lineOf}
+use Rattle.linesize.specs.Parts.{OneLength}
 use Rattle.crosschecks.specs.Numbers.{crossOf, sizingNumbers, crossNumbersAt, itemLengths}
 use Rattle.sizecall.specs.declared.SizeAnswer.{SizeAnswer}
 use Rattle.sizecall.specs.declared.SizeAnswer.the-variants.{Sized, Refused}
 use Rattle.sizecall.specs.SizeCall.{sizeInput, sizeVerdict, sizeInto, sizeCall}
 
 module _ (c : CrossNumbers) (ls : Items) where
-  pub size-checked : {a k m : ℕ} {v : Verdict} → Even ls → a ≡ leastOf (sizingNumbers c) 0 → k ≡ leastUpTo (λ i. leastOf (crossNumbersAt ls i) (i + 1)) (count ls) → m ≡ min a k → v ≡ judged m
+  pub size-checked : {a k m : ℕ} {v : Verdict} → OneLength ls → a ≡ leastOf (sizingNumbers c) 0 → k ≡ leastUpTo (λ i. leastOf (crossNumbersAt ls i) (i + 1)) (count ls) → m ≡ min a k → v ≡ judged m
       → v ≡ checked (sizeInput c ls) Passed
   size-checked e p q r h = h ∙ ap judged (r ∙ ap₂ min p q) ∙ judged-is (sizeInput c ls) (e .few)
 
   -- a passed shape: the lists are even
-  pub size-even : {v : Verdict} → v ≡ shapeOf (itemLengths ls) [] (count ls) → v ≡ Passed → Even ls
+  pub size-even : {v : Verdict} → v ≡ shapeOf (itemLengths ls) [] (count ls) → v ≡ Passed → OneLength ls
   size-even e h =
       let q = shaped (count ls) (length (ls .minimum) ∷ length (ls .maximum) ∷ length (ls .capped) ∷ length (ls .edges) ∷ length (ls .start) ∷ length (ls .end) ∷ length (ls .auto-start) ∷ length (ls .auto-end) ∷ []) [] (sym e ∙ h) in
       record {

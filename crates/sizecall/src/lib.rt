@@ -4,7 +4,8 @@ ghost use mathlib.Core.List.{[], _∷_};
 ghost use Rattle.refusal.specs.Domain.{checked};
 ghost use Rattle.refusal.specs.declared.Verdict.the-variants.{Passed};
 ghost use Rattle.refusal.specs.Shapes.{shapeOf};
-ghost use Rattle.linesize.specs.CrossSize.{items, Even};
+ghost use Rattle.linesize.specs.CrossSize.{items};
+ghost use Rattle.linesize.specs.Parts.{OneLength};
 ghost use Rattle.sizecall.specs.SizeCall.{sizeInput, sizeCall};
 use crosschecks::lengths;
 use crosschecks::marks;
@@ -76,7 +77,7 @@ fn check_size_numbers<'a>(
     auto_start: &'a [u32],
     auto_end: &'a [u32],
 ) -> Verdict
-    requires { ⌜ Even (items (now measured) (now minimum) (now maximum) (now capped) (now edges) (now start) (now end) (now «auto_start») (now «auto_end»)) ⌝ }
+    requires { ⌜ OneLength (items (now measured) (now minimum) (now maximum) (now capped) (now edges) (now start) (now end) (now «auto_start») (now «auto_end»)) ⌝ }
     ensures { λ r. ⌜ r ≡ checked (sizeInput c (items (now (measured .entry)) (now (minimum .entry)) (now (maximum .entry)) (now (capped .entry)) (now (edges .entry)) (now (start .entry)) (now (end .entry)) (now («auto_start» .entry)) (now («auto_end» .entry)))) Passed ⌝ }
 {
     let container = numbers::mark_sizing(c);

@@ -13,9 +13,11 @@ use Rattle.flexlines.specs.Lines.{lineStart}
 use Rattle.linesize.specs.declared.container.Cross.{Cross}
 use Rattle.grid.specs.Floats.{each}
 use Rattle.align.specs.Lists.{overwritten}
-use Rattle.linesize.specs.CrossSize.{Items, items, count, Even, lineOf}
+use Rattle.linesize.specs.CrossSize.{Items, items, count, lineOf}
+use Rattle.linesize.specs.Parts.{OneLength}
 use Rattle.align.proofs.Each.{length-each, written-none, written-turn, written-length, written-all}
-use Rattle.sizelines.specs.Sizes.{crossLine, SizesReady, crossSizes}
+use Rattle.sizelines.specs.Sizes.{crossLine, crossSizes}
+use Rattle.sizelines.specs.Parts.{SizesReady}
 use Rattle.bylines.proofs.Parted.{Here, start-none, start-next, ends-within, lent-is}
 
 -- ---- one line
@@ -44,7 +46,7 @@ pub record Inside (ls : Items) (from to : ℕ) : Type 0 where
   pub in-auto-start : to ≤ length (ls .auto-start)
   pub in-auto-end : to ≤ length (ls .auto-end)
 
-pub inside-of : {ls : Items} {from to : ℕ} → Even ls → from ≤ to → to ≤ count ls → Inside ls from to
+pub inside-of : {ls : Items} {from to : ℕ} → OneLength ls → from ≤ to → to ≤ count ls → Inside ls from to
 inside-of e h k = record {
   forward = h;
   few = omega (arith, e .few);
@@ -60,7 +62,7 @@ inside-of e h k = record {
 }
 
 -- the stage's own requirement
-pub lent-even : {ls : Items} {from to : ℕ} → Inside ls from to → Even (lentItems from to ls)
+pub lent-even : {ls : Items} {from to : ℕ} → Inside ls from to → OneLength (lentItems from to ls)
 lent-even {ls} {from} {to} t =
     let n = mid-len from to (ls .measured) (t .in-measured) in
     record {

@@ -1,23 +1,16 @@
 -- Document 01, "Cross axis", line by line: each line's size from its own items. Assumes nothing.
 use mathlib.Core.List.{List}
-use Prim.Native.Nat.{ℕ, _≤_}
+use Prim.Native.Nat.{ℕ}
 use lib.ListN.{length}
 use lib.Ieee.{Float}
 use Rattle.linesize.specs.declared.container.Cross.{Cross}
 use Rattle.align.specs.Lists.{overwritten}
-use Rattle.linesize.specs.CrossSize.{Items, items, count, Even, lineOf}
+use Rattle.linesize.specs.CrossSize.{Items, items, lineOf}
 use Rattle.flexlines.specs.Lines.{part}
-use Rattle.bylines.specs.Parts.{Division}
 
 -- the items of line j
 abbrev pub crossLine : List ℕ → ℕ → Items → Items
 crossLine counts j ls = items (part counts j (ls .measured)) (part counts j (ls .minimum)) (part counts j (ls .maximum)) (part counts j (ls .capped)) (part counts j (ls .edges)) (part counts j (ls .start)) (part counts j (ls .end)) (part counts j (ls .auto-start)) (part counts j (ls .auto-end))
-
--- what the pass's checks show: the lines have the items of the lists, and there is room for the lines
-pub record SizesReady (counts : List ℕ) (ls : Items) (sizes : List Float) : Type 0 where
-  pub even : Even ls
-  pub division : Division counts (count ls)
-  pub room : length counts ≤ length sizes
 
 -- a list by line: the cells past the last line are as they were
 abbrev pub crossSizes : Cross → List ℕ → Items → List Float → List Float

@@ -1,7 +1,8 @@
 // The lines' cross sizes, line by line: each line is lent its own parts of the lists. No entry point: the pass checks before it walks.
 ghost use mathlib.Core.Path.{_≡_};
 ghost use Rattle.linesize.specs.CrossSize.{items};
-ghost use Rattle.sizelines.specs.Sizes.{SizesReady, crossSizes};
+ghost use Rattle.sizelines.specs.Sizes.{crossSizes};
+ghost use Rattle.sizelines.specs.Parts.{SizesReady};
 use linesize::container::Cross;
 use linesize::cross_size::calculate_cross_size;
 

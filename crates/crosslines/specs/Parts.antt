@@ -1,0 +1,15 @@
+-- What the walk across the lines, line by line, asks. Only contracts of parts cite it. Assumes nothing.
+use mathlib.Core.List.{List}
+use Prim.Native.Nat.{ℕ, _≤_}
+use lib.ListN.{length}
+use lib.Ieee.{Float}
+use Rattle.linesize.specs.CrossSize.{Items, count}
+use Rattle.crossaxis.specs.Parts.{SameLengths, Room}
+use Rattle.bylines.specs.Parts.{Division}
+
+-- what the pass's checks show: the lines have the items of the lists, each line has a size, and there is room for the items
+pub record AcrossReady (counts : List ℕ) (lines : List Float) (ls : Items) (alignment auto-size : List ℕ) (sizes starts ends offsets : List Float) : Type 0 where
+  pub sorted : SameLengths ls alignment auto-size
+  pub division : Division counts (count ls)
+  pub sized : length counts ≤ length lines
+  pub room : Room (count ls) sizes starts ends offsets

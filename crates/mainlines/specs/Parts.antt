@@ -1,0 +1,16 @@
+-- What the walk along the main axis, line by line, asks. Only contracts of parts cite it. Assumes nothing.
+use mathlib.Core.List.{List}
+use Prim.Native.Nat.{ℕ, _≤_}
+use lib.ListN.{length}
+use lib.Ieee.{Float}
+use Rattle.mainaxis.specs.MainAxis.{Line, count}
+use Rattle.mainaxis.specs.Parts.{OneLength}
+use Rattle.bylines.specs.Parts.{Division}
+
+-- what the pass's checks show: the lines have the items of the lists, and there is room for them
+pub record MainReady (counts : List ℕ) (l : Line) (offsets starts ends : List Float) : Type 0 where
+  pub even : OneLength l
+  pub division : Division counts (count l)
+  pub offsets-room : count l ≤ length offsets
+  pub starts-room : count l ≤ length starts
+  pub ends-room : count l ≤ length ends
