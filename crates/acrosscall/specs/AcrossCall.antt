@@ -51,5 +51,6 @@ acrossInto Passed line reversed ls alignment auto-size z s e o =
     let back = not (eqb reversed 0) in
     result (Done 0 0) (usedSizes line back ls alignment auto-size z) (usedStarts line back ls alignment auto-size s) (usedEnds line back ls alignment auto-size e) (itemOffsets line back ls alignment auto-size o)
 
+-- THE CALL ("Cross axis"): it refuses by checks 1 to 5 and changes nothing, or it leaves the items' used sizes, used margins and offsets
 abbrev pub acrossCall : Float → ℕ → Items → List ℕ → List ℕ → List Float → List Float → List Float → List Float → AcrossResult
 acrossCall line reversed ls alignment auto-size z s e o = acrossInto (acrossVerdict line reversed ls alignment auto-size (length z ∷ length s ∷ length e ∷ length o ∷ [])) line reversed ls alignment auto-size z s e o

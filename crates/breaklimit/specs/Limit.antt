@@ -55,6 +55,7 @@ withoutMaximum q (Definite x) = cond (keepsSpace q) (Definite (cleaned x)) MaxCo
 withoutMaximum q MinContent = MinContent
 withoutMaximum q MaxContent = MaxContent
 
+-- "Else, with a maximum: .. the result is definite. With no maximum, .."
 abbrev pub byMaximum : Query → Bound → AvailableSpace
 byMaximum q Absent = withoutMaximum q (q .available)
 byMaximum q (Given maximum) = Definite (cleaned (raisedTo (q .minimum) (underMaximum q maximum)))

@@ -26,6 +26,7 @@ stretches (Spread SpaceBetween) = false
 stretches (Spread SpaceAround) = false
 stretches (Spread SpaceEvenly) = false
 
+-- the first bound where it is given, "else" the second
 abbrev pub else : Bound → Bound → Bound
 else Absent b = b
 else (Given x) b = Given x

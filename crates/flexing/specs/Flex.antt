@@ -33,6 +33,7 @@ total f l = sumFrom nought f l
 unfoldable pub clamp : Item → Float → Float
 clamp it x = raised (raised (lowered x (it .maximum)) (it .minimum)) (it .edges)
 
+-- "Hypothetical size": the base, clamped
 abbrev pub hypothetical : Item → Float
 hypothetical it = clamp it (it .base)
 
@@ -89,6 +90,7 @@ inflexible growing it = eq (factor growing it) nought || cond growing (lt (hypot
 abbrev pub first : Bool → Item → Cell
 first growing it = record { item = it; frozen = inflexible growing it; target = hypothetical it }
 
+-- "Freeze at hypothetical size each item ..": the items of a line before its first round
 abbrev pub begun : Float → Float → List Item → List Cell
 begun inner gap items = map (first (grows inner gap items)) items
 

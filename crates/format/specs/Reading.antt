@@ -22,6 +22,7 @@ unfoldable pub ending : ℕ → List ℕ → Rest
 ending place [] = sizes []
 ending place (b ∷ bytes) = faulty place
 
+-- what the record at `place` makes of the rest: an item adds its size, the end ends; "Anything else is .. the byte offset where the faulty record starts"
 abbrev pub byRecord : Parsed → ℕ → Rest → Rest → Rest
 byRecord (parsed.Item size) place next end = more size next
 byRecord parsed.End place next end = end
@@ -49,6 +50,7 @@ abbrev pub under : Head → Rest → Reading
 under head (sizes rest) = whole head rest
 under head (faulty place) = broken place
 
+-- a capture whose first record is kind 1 is read on under it; any other breaks where that record starts, at 0
 abbrev pub byHead : Parsed → Rest → Reading
 byHead (parsed.Head head) rest = under head rest
 byHead parsed.Partial rest = broken 0

@@ -48,5 +48,6 @@ abbrev pub linesInto : Verdict → CrossNumbers → ℕ → List Float → List 
 linesInto (verdict.Refused why) c alignment lines s o = result (Refused why) s o
 linesInto Passed c alignment lines s o = along (readCross (crossOf c)) alignment lines s o
 
+-- THE CALL ("Cross axis"): it refuses by checks 1 to 5 and changes nothing, or it answers with the inner cross size and leaves the lines' sizes and offsets
 abbrev pub linesCall : CrossNumbers → ℕ → List Float → List Float → List Float → LinesResult
 linesCall c alignment lines s o = linesInto (linesVerdict c alignment lines (length s ∷ length o ∷ [])) c alignment lines s o

@@ -37,6 +37,7 @@ outerAt l i = outer (getD (l .targets) i nan) (getD (l .auto-start) i 0) (getD (
 unfoldable pub freeSpace : Float → Float → Line → Float
 freeSpace inner gap l = cleaned inner ⊖ (gaps (cleaned gap) (count l) ⊕ total (outerAt l) (count l))
 
+-- "their number": the auto margins of the line, of both sides
 unfoldable pub autoCount : Line → ℕ
 autoCount l = autos (l .auto-start) (length (l .auto-start)) + autos (l .auto-end) (length (l .auto-end))
 

@@ -52,5 +52,6 @@ mainInto (verdict.Refused why) inner gap justify reversed l o s e = result (answ
 mainInto Passed inner gap justify reversed l o s e =
     result (Done 0 0) (placedOffsets inner gap (contentOf justify) (not (eqb reversed 0)) l o) (usedMargins inner gap l (l .auto-start) (l .start) s) (usedMargins inner gap l (l .auto-end) (l .end) e)
 
+-- THE CALL ("Main axis"): it refuses by checks 1 to 5 and changes nothing, or it leaves the items' offsets and used margins
 abbrev pub mainCall : Float → Float → ℕ → ℕ → Line → List Float → List Float → List Float → MainResult
 mainCall inner gap justify reversed l o s e = mainInto (mainVerdict inner gap justify reversed l (length o ∷ length s ∷ length e ∷ [])) inner gap justify reversed l o s e

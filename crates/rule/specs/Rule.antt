@@ -23,7 +23,8 @@ pub record Line (limit : Limit) (gap : ℤ) (xs : List ℤ) (c after : ℕ) : Ty
   -- "each line has one item or fits"
   pub fit : (c ≡ 1) ⊎ T (fits limit (lineSize gap (take c xs)))
   -- "if the item after a line is zero, either the line with it would not fit, or fewer items would remain after that item than there are
-  -- lines after this one". The item after the line is item number c of xs, where there is one.
+  -- lines after this one". The item after the line is item number c of xs, where there is one: under `c < length xs` the default
+  -- `pos 1` is never read.
   pub zeros : c < length xs → getD xs c (pos 1) ≡ pos 0
       → T (not (fits limit (lineSize gap (take (c + 1) xs)))) ⊎ (length xs - (c + 1) < after)
 

@@ -23,5 +23,6 @@ abbrev pub sizeInto : Verdict → CrossNumbers → Items → SizeAnswer
 sizeInto (verdict.Refused why) c ls = Refused why
 sizeInto Passed c ls = Sized (lineOf (crossOf c) ls)
 
+-- THE CALL ("Cross axis"): it refuses by checks 1 to 5, or it answers with the line's size
 abbrev pub sizeCall : CrossNumbers → Items → SizeAnswer
 sizeCall c ls = sizeInto (sizeVerdict c ls) c ls
