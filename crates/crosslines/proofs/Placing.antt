@@ -104,9 +104,9 @@ module _ (reversed : Bool) (counts : List ℕ) (lines : List Float) (ls : Items)
       turn-of =
           let w = ends-within (ready .division) h at-line in
           record {
-            inside = inside-of (ready .sorted .even) (omega arith) w;
-            in-alignment = omega (arith, ready .sorted .alignment-length);
-            in-auto-size = omega (arith, ready .sorted .auto-length);
+            inside = inside-of (ready .lengths .even) (omega arith) w;
+            in-alignment = omega (arith, ready .lengths .alignment-length);
+            in-auto-size = omega (arith, ready .lengths .auto-length);
             in-sizes = omega (arith, ready .room .sizes-room, g .sizes-front .long);
             in-starts = omega (arith, ready .room .starts-room, g .starts-front .long);
             in-ends = omega (arith, ready .room .ends-room, g .ends-front .long);

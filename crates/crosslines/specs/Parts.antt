@@ -9,7 +9,7 @@ use Rattle.bylines.specs.Parts.{Division}
 
 -- what the pass's checks show: the lines have the items of the lists, each line has a size, and there is room for the items
 pub record AcrossReady (counts : List ℕ) (lines : List Float) (ls : Items) (alignment auto-size : List ℕ) (sizes starts ends offsets : List Float) : Type 0 where
-  pub sorted : SameLengths ls alignment auto-size
+  pub lengths : SameLengths ls alignment auto-size
   pub division : Division counts (count ls)
   pub sized : length counts ≤ length lines
   pub room : Room (count ls) sizes starts ends offsets

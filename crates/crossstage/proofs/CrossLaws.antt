@@ -44,7 +44,7 @@ module _ {n : ℕ} {x : List Float} {codes counts : List ℕ} (r : Ready n x cod
   across-ready lines sizes starts ends offsets h a b d e =
       let l = number-length (r .listed) 8 (omega arith) in
       record {
-        sorted = sorted-cross (r .listed);
+        lengths = sorted-cross (r .listed);
         division = r .division ∙ sym l;
         sized = le-trans {m = n} (r .few) h;
         room = record { sizes-room = le-trans {m = n} (le-of-eq l) a; starts-room = le-trans {m = n} (le-of-eq l) b; ends-room = le-trans {m = n} (le-of-eq l) d; offsets-room = le-trans {m = n} (le-of-eq l) e };
