@@ -16,14 +16,10 @@ use Rattle.grid.specs.Floats.{sumUpTo}
 use Rattle.flexing.specs.declared.Item.{Item}
 use Rattle.flexlaws.proofs.Determined.{same-answer}
 use Rattle.flexlines.specs.Lines.{lineStart, lineItems, part, Beyond, FlexedLines}
+use Rattle.flexlines.specs.Alone.{SameFlexed}
 use Rattle.flexlines.proofs.Going.{sum-ext, flexed-as}
 
 -- ---- a line by itself
-
-pub record SameFlexed (counts counts' : List ℕ) (j j' : ℕ) (targets targets' : List Float) (free free' : List ℤ) (rounds rounds' : List ℕ) : Type 0 where
-  pub free-same : getD free j (pos 0) ≡ getD free' j' (pos 0)
-  pub rounds-same : getD rounds j 0 ≡ getD rounds' j' 0
-  pub targets-same : part counts j targets ≡ part counts' j' targets'
 
 pub flexed-alone : {inner gap : Float} {item item' : ℕ → Item} {n n' : ℕ} {counts counts' : List ℕ} {sum sum' : ℕ} {t₀ t t₀' t' : List Float} {f₀ f f₀' f' : List ℤ} {r₀ r r₀' r' : List ℕ}
     → FlexedLines inner gap item n counts sum t₀ f₀ r₀ t f r → FlexedLines inner gap item' n' counts' sum' t₀' f₀' r₀' t' f' r'

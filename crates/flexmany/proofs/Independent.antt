@@ -22,7 +22,8 @@ use Rattle.flexlines.specs.Lines.{lineStart}
 use Rattle.flexchecks.specs.Counts.{linesShape, linesInput}
 use Rattle.flexmany.specs.Lines.{roomOf, linesVerdict, FlexedByLine}
 use Rattle.itemtable.proofs.Each.{each-ext}
-use Rattle.flexlines.proofs.Alone.{SameFlexed, flexed-alone, one-flexed}
+use Rattle.flexlines.specs.Alone.{SameFlexed}
+use Rattle.flexlines.proofs.Alone.{flexed-alone, one-flexed}
 use Rattle.flexchecks.proofs.Division.{division-fine}
 
 -- ---- a line by itself

@@ -11,19 +11,14 @@ use Rattle.grid.specs.Floats.{each}
 use Rattle.flexing.specs.Items.{itemAt}
 use Rattle.itemtable.proofs.Each.{each-ext}
 use Rattle.flexlines.specs.Lines.{lineStart, lineItems, part}
-use Rattle.flexlines.proofs.Alone.{SameFlexed, flexed-alone}
+use Rattle.flexlines.proofs.Alone.{flexed-alone}
 use Rattle.mainlines.proofs.Spacing.{same-line, main-independent}
 use Rattle.container.specs.declared.Container.{Container}
 use Rattle.container.specs.Columns.{column, mainLists}
 use Rattle.laying.specs.Laid.{Lent, Laid}
+use Rattle.laying.specs.Alone.{SameItems, SameLine}
 
 -- ---- a line's own items
-
--- so many of them, and the same numbers and codes on the main axis
-pub record SameItems (counts counts' : List ℕ) (j j' n n' : ℕ) (x x' : List Float) (codes codes' : List ℕ) : Type 0 where
-  pub as-many : getD counts j 0 ≡ getD counts' j' 0
-  pub numbers : (k : ℕ) → k < 8 → part counts j (column n k x) ≡ part counts' j' (column n' k x')
-  pub marks : (k : ℕ) → k < 3 → part counts j (column n k codes) ≡ part counts' j' (column n' k codes')
 
 in-part : {A : Type 0} (counts : List ℕ) (j : ℕ) (l : List A) (i : ℕ) (d : A) → i < getD counts j 0 → getD (part counts j l) i d ≡ getD l (lineStart counts j + i) d
 in-part counts j l i d h = getD-take (getD counts j 0) (drop (lineStart counts j) l) i d h ∙ getD-drop (lineStart counts j) l i d
@@ -44,13 +39,6 @@ module _ {counts counts' : List ℕ} {j j' n n' : ℕ} {x x' : List Float} {code
       ∙ ap (λ (k : ℕ). each k (λ i. itemAt (mainLists n' x' codes') (lineStart counts' j' + i))) (s .as-many)
 
 -- ---- a line by itself
-
--- what two runs say of a line: its free space and rounds, and of its items targets, offsets and used margins
-pub record SameLine (counts counts' : List ℕ) (j j' n n' : ℕ) (a a' : Lent) : Type 0 where
-  pub flexed : SameFlexed counts counts' j j' (column n 0 (a .placed)) (column n' 0 (a' .placed)) (a .free) (a' .free) (a .rounds) (a' .rounds)
-  pub offsets : part counts j (column n 1 (a .placed)) ≡ part counts' j' (column n' 1 (a' .placed))
-  pub starts : part counts j (column n 2 (a .placed)) ≡ part counts' j' (column n' 2 (a' .placed))
-  pub ends : part counts j (column n 3 (a .placed)) ≡ part counts' j' (column n' 3 (a' .placed))
 
 pub pass-independent : (c : Container) {n n' : ℕ} {x x' : List Float} {codes codes' : List ℕ} {b b' a a' : Lent} {k k' sum sum' : ℕ} {inner inner' : Float}
     → Laid c n x codes b k sum inner a → Laid c n' x' codes' b' k' sum' inner' a'
