@@ -9,8 +9,9 @@ use Rattle.crosschecks.specs.declared.numbers.CrossNumbers.{CrossNumbers}
 use Rattle.crosschecks.specs.Numbers.{crossOf}
 use Rattle.container.specs.declared.Container.{Container}
 
-abbrev pub limitOf : Container → AvailableSpace
-limitOf c = spaceOf (c .«limit_kind») (c .limit)
+-- the limit of "Breaking": kinds 0 definite, 1 min-content, 2 max-content
+abbrev pub limitSpace : Container → AvailableSpace
+limitSpace c = spaceOf (c .«limit_kind») (c .limit)
 
 -- directions: 0 row, 1 row-reverse, 2 column, 3 column-reverse
 abbrev pub reversed : Container → Bool

@@ -16,7 +16,7 @@ use Rattle.rule.proofs.SizesLaws.{fit-mono, laws, chosen}
 use Rattle.rule.proofs.Exists.{balanced-of}
 use Rattle.cells.specs.Sums.{sizeF, ends}
 use Rattle.fitting.specs.Tables.{FitsOut, FitRange, CountsFrom, Rising, Falling, Reaches}
-use Rattle.rows.specs.Program.{counted, TablesAre, RowBase, RowsSoFar}
+use Rattle.rows.specs.Program.{countAt, TablesAre, RowBase, RowsSoFar}
 use Rattle.rows.proofs.ProgramLaws.{first-prev}
 use Rattle.counts.specs.Reading.{Readable, ReadOut}
 use Rattle.counts.specs.Run.{BalanceIn, BalanceOut}
@@ -45,12 +45,12 @@ module _ (sums : List Float) (gap : Float) (bounded : Bool) (limit : Float) (fit
       counts-are = record { end = rw (sym (I .sums-are .count) ∙ sym fl) (G .end); step = λ s h. G .step s zero-le (omega (arith, I .sums-are .count)) };
     }
 
-    pub table-laws : (I : BalanceIn sums gap bounded limit) → Laws (length (I .xs)) (ends fit) (counted greedy) (ZeroAt (I .xs)) (squareAt (I .g) (I .xs))
-    table-laws I = laws (I .L) (I .g) (I .xs) (ends fit) (counted greedy) (tables I .fits-are) (tables I .counts-are)
+    pub table-laws : (I : BalanceIn sums gap bounded limit) → Laws (length (I .xs)) (ends fit) (countAt greedy) (ZeroAt (I .xs)) (squareAt (I .g) (I .xs))
+    table-laws I = laws (I .L) (I .g) (I .xs) (ends fit) (countAt greedy) (tables I .fits-are) (tables I .counts-are)
 
     pub greedy-falling : BalanceIn sums gap bounded limit → Falling greedy
     greedy-falling I = record {
-      falls = λ s t l h. G-mono (length (I .xs)) (ends fit) (counted greedy) (ZeroAt (I .xs)) (squareAt (I .g) (I .xs)) (table-laws I) s t l (omega (arith, I .sums-are .count));
+      falls = λ s t l h. G-mono (length (I .xs)) (ends fit) (countAt greedy) (ZeroAt (I .xs)) (squareAt (I .g) (I .xs)) (table-laws I) s t l (omega (arith, I .sums-are .count));
     }
 
 -- the tables as they are before the rows, the first row, and the line count
@@ -117,5 +117,5 @@ module _ (sums : List Float) (gap : Float) (bounded : Bool) (limit : Float) (min
             let T = made-tables I in
             let b : BestAt (length (I .xs)) (ends fit) (ZeroAt (I .xs)) (squareAt (I .g) (I .xs)) 0 K (take K counts) = O .best (readable I) in
             let k : K ≡ max (getD greedy 0 0) (held minimum (length (I .xs))) = rw (sym (I .sums-are .count)) (M .K-is) in
-            balanced-of (I .L) (I .g) (I .xs) (ends fit) (counted greedy) (T .fits-are) (T .counts-are) minimum (take K counts)
-            (subst (λ (j : ℕ). Chosen (I .L) (I .g) (I .xs) j (take K counts)) k (chosen (I .L) (I .g) (I .xs) (ends fit) (counted greedy) (T .fits-are) (T .counts-are) K (take K counts) b))
+            balanced-of (I .L) (I .g) (I .xs) (ends fit) (countAt greedy) (T .fits-are) (T .counts-are) minimum (take K counts)
+            (subst (λ (j : ℕ). Chosen (I .L) (I .g) (I .xs) j (take K counts)) k (chosen (I .L) (I .g) (I .xs) (ends fit) (countAt greedy) (T .fits-are) (T .counts-are) K (take K counts) b))

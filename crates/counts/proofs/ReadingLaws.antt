@@ -10,7 +10,7 @@ use Rattle.rule.specs.Dp.{Argmin, Feas, Usable, BestAt}
 use Rattle.rule.proofs.DpLaws.{Reads, reads-start, reads-more, reads-end}
 use Rattle.rule.specs.Sizes.{squareAt, ZeroAt}
 use Rattle.cells.specs.Sums.{ends}
-use Rattle.rows.specs.Program.{counted, Within, RowKept}
+use Rattle.rows.specs.Program.{countAt, Within, RowKept}
 use Rattle.rows.proofs.ProgramLaws.{within-next}
 use Rattle.counts.specs.Reading.{Readable, ReadOut}
 
@@ -18,7 +18,7 @@ use Rattle.counts.specs.Reading.{Readable, ReadOut}
 pub record ReadSoFar (opts : List ℕ) (n K : ℕ) (counts : List ℕ) (start lines i : ℕ) : Type 0 where
   pub sum : i + lines ≡ K
   pub some : 1 ≤ lines
-  pub feas : (R : Readable opts n K) → Feas (length (R .xs)) (counted (R .greedy)) start lines
+  pub feas : (R : Readable opts n K) → Feas (length (R .xs)) (countAt (R .greedy)) start lines
   pub within : (R : Readable opts n K) → Within (R .reach) i start
   pub reads : (R : Readable opts n K) → Reads (length (R .xs)) (ends (R .fit)) (ZeroAt (R .xs)) (squareAt (R .g) (R .xs)) K (take i counts) start lines
 
@@ -28,7 +28,7 @@ read-start opts n K counts h = record {
   some = h;
   feas = λ R. R .start;
   within = λ R. record { from = zero-le; to = zero-le };
-  reads = λ R. reads-start (length (R .xs)) (ends (R .fit)) (counted (R .greedy)) (ZeroAt (R .xs)) (squareAt (R .g) (R .xs)) (R .law) K;
+  reads = λ R. reads-start (length (R .xs)) (ends (R .fit)) (countAt (R .greedy)) (ZeroAt (R .xs)) (squareAt (R .g) (R .xs)) (R .law) K;
 }
 
 module _ (opts : List ℕ) (n K : ℕ) (counts : List ℕ) (start lines i : ℕ) (P : ReadSoFar opts n K counts start lines i) where
@@ -41,16 +41,16 @@ module _ (opts : List ℕ) (n K : ℕ) (counts : List ℕ) (start lines i : ℕ)
 
   -- the choice at the start
   pub read-choice : (h : 1 < lines) (R : Readable opts n K)
-      → Argmin (Usable (length (R .xs)) (ends (R .fit)) (counted (R .greedy)) (ZeroAt (R .xs)) (lines - 1) start)
+      → Argmin (Usable (length (R .xs)) (ends (R .fit)) (countAt (R .greedy)) (ZeroAt (R .xs)) (lines - 1) start)
       (λ t. squareAt (R .g) (R .xs) start t + read-row h R .v t) (getD opts ((lines - 2) * n + start) 0 + 1)
   read-choice h R =
       let f : suc (lines - 1) ≡ lines = omega arith in
       read-row h R .choices start (rw f (P .feas R)) (P .within R)
 
   -- the next line's start
-  read-within : 1 < lines → (R : Readable opts n K) (u : ℕ) → Usable (length (R .xs)) (ends (R .fit)) (counted (R .greedy)) (ZeroAt (R .xs)) (lines - 1) start u → Within (R .reach) (i + 1) u
+  read-within : 1 < lines → (R : Readable opts n K) (u : ℕ) → Usable (length (R .xs)) (ends (R .fit)) (countAt (R .greedy)) (ZeroAt (R .xs)) (lines - 1) start u → Within (R .reach) (i + 1) u
   read-within h R u g =
-      within-next (length (R .xs)) (R .fit) (R .reach) (counted (R .greedy)) (ZeroAt (R .xs)) (lines - 1) i start u (R .fit-length) (R .reaches) (omega (arith, P .sum, R .start .room)) (P .within R) g
+      within-next (length (R .xs)) (R .fit) (R .reach) (countAt (R .greedy)) (ZeroAt (R .xs)) (lines - 1) i start u (R .fit-length) (R .reaches) (omega (arith, P .sum, R .start .room)) (P .within R) g
 
   pub read-more : (x : ℕ) → 1 < lines → i < length counts → x ≡ getD opts ((lines - 2) * n + start) 0 - start + 1 → Readable opts n K
       → ReadSoFar opts n K (set counts i x) (getD opts ((lines - 2) * n + start) 0 + 1) (lines - 1) (i + 1)
@@ -68,7 +68,7 @@ module _ (opts : List ℕ) (n K : ℕ) (counts : List ℕ) (start lines i : ℕ)
           let f : suc (lines - 1) ≡ lines = omega arith in
           let c : getD opts ((lines - 2) * n + start) 0 + 1 - start ≡ x = omega (arith, read-choice h R .has .ok .some) in
           rw (add-one i, take-suc-set counts i x il)
-          (rw c at (reads-more (length (R .xs)) (ends (R .fit)) (counted (R .greedy)) (ZeroAt (R .xs)) (squareAt (R .g) (R .xs)) (R .law) K (take i counts) (lines - 1) start (getD opts ((lines - 2) * n + start) 0 + 1) (row .v)
+          (rw c at (reads-more (length (R .xs)) (ends (R .fit)) (countAt (R .greedy)) (ZeroAt (R .xs)) (squareAt (R .g) (R .xs)) (R .law) K (take i counts) (lines - 1) start (getD opts ((lines - 2) * n + start) 0 + 1) (row .v)
           (λ u g. row .costs u (g .feas) (read-within h R u g)) (read-choice h R) (rw f (P .reads R))))
 
   pub read-end : (x : ℕ) → lines ≤ 1 → i < length counts → x ≡ n - start → ReadOut opts n K (set counts i x)
@@ -83,4 +83,4 @@ module _ (opts : List ℕ) (n K : ℕ) (counts : List ℕ) (start lines i : ℕ)
           let c : length (R .xs) - start ≡ x = omega (arith, R .n-is) in
           subst (λ (j : ℕ). BestAt (length (R .xs)) (ends (R .fit)) (ZeroAt (R .xs)) (squareAt (R .g) (R .xs)) 0 K (take j (set counts i x))) (sym k)
           (rw (take-suc-set counts i x il)
-          (rw c at (reads-end (length (R .xs)) (ends (R .fit)) (counted (R .greedy)) (ZeroAt (R .xs)) (squareAt (R .g) (R .xs)) (R .law) K (take i counts) start (rw one at (P .feas R)) (rw one at (P .reads R)))))
+          (rw c at (reads-end (length (R .xs)) (ends (R .fit)) (countAt (R .greedy)) (ZeroAt (R .xs)) (squareAt (R .g) (R .xs)) (R .law) K (take i counts) start (rw one at (P .feas R)) (rw one at (P .reads R)))))

@@ -7,7 +7,7 @@ use Rattle.rule.specs.Dp.{Feas, Laws, BestAt}
 use Rattle.rule.specs.Sizes.{squareAt, ZeroAt}
 use Rattle.cells.specs.Sums.{ends}
 use Rattle.fitting.specs.Tables.{Reaches}
-use Rattle.rows.specs.Program.{counted, RowKept}
+use Rattle.rows.specs.Program.{countAt, RowKept}
 
 -- the choices in `opts` are those of some items, for every row up to K lines, and K lines are possible
 pub record Readable (opts : List ℕ) (n K : ℕ) : Type 0 where
@@ -19,9 +19,9 @@ pub record Readable (opts : List ℕ) (n K : ℕ) : Type 0 where
   pub n-is : length xs ≡ n
   pub fit-length : length fit ≡ length xs
   pub reaches : Reaches fit reach
-  pub law : Laws (length xs) (ends fit) (counted greedy) (ZeroAt xs) (squareAt g xs)
+  pub law : Laws (length xs) (ends fit) (countAt greedy) (ZeroAt xs) (squareAt g xs)
   pub rows : (k : ℕ) → 1 ≤ k → k + 1 < K + 1 → RowKept g xs fit greedy reach opts ((k - 1) * n) k (K - (k + 1))
-  pub start : Feas (length xs) (counted greedy) 0 K
+  pub start : Feas (length xs) (countAt greedy) 0 K
 
 pub record ReadOut (opts : List ℕ) (n K : ℕ) (counts : List ℕ) : Type 0 where
   pub best : (R : Readable opts n K) → BestAt (length (R .xs)) (ends (R .fit)) (ZeroAt (R .xs)) (squareAt (R .g) (R .xs)) 0 K (take K counts)

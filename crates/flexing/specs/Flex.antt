@@ -86,13 +86,13 @@ pub record Cell : Type 0 where
 unfoldable pub inflexible : Bool → Item → Bool
 inflexible growing it = eq (factor growing it) nought || cond growing (lt (hypothetical it) (it .base)) (lt (it .base) (hypothetical it))
 
--- such an item is frozen at its hypothetical size
-abbrev pub first : Bool → Item → Cell
-first growing it = record { item = it; frozen = inflexible growing it; target = hypothetical it }
+-- such an item is frozen at its hypothetical size; the target of one that is not frozen is a placeholder, which no step reads
+abbrev pub startCell : Bool → Item → Cell
+startCell growing it = record { item = it; frozen = inflexible growing it; target = hypothetical it }
 
 -- "Freeze at hypothetical size each item ..": the items of a line before its first round
 abbrev pub begun : Float → Float → List Item → List Cell
-begun inner gap items = map (first (grows inner gap items)) items
+begun inner gap items = map (startCell (grows inner gap items)) items
 
 -- ---- step 3, initial free space; and step 4b, remaining free space
 

@@ -7,7 +7,7 @@ use lib.ListN.{length, drop, length-map}
 use lib.IntN.{ℤ}
 use lib.Ieee.{Float}
 use Rattle.flexing.specs.declared.Item.{Item}
-use Rattle.flexing.specs.Flex.{lineOf, begun, first, grows, targets, freeBefore, Flexed}
+use Rattle.flexing.specs.Flex.{lineOf, begun, startCell, grows, targets, freeBefore, Flexed}
 use Rattle.flexlaws.proofs.Falls.{rounds-one, rounds-end, rounds-few}
 
 -- ---- a line that is flexed
@@ -26,7 +26,7 @@ module _ (inner gap : Float) (items : List Item) (old : List Float) where
         record {
           space = refl;
           number = e .1;
-          few = le-trans {m = length (begun inner gap items)} (rounds-few (lineOf inner gap items) (begun inner gap items) (e .0) (e .1)) (le-of-eq (length-map items (first (grows inner gap items))));
+          few = le-trans {m = length (begun inner gap items)} (rounds-few (lineOf inner gap items) (begun inner gap items) (e .0) (e .1)) (le-of-eq (length-map items (startCell (grows inner gap items))));
           cells = refl;
         },
       )

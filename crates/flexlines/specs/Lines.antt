@@ -37,10 +37,10 @@ divides counts n = eqb (lineStart counts (length counts)) n && positive counts (
 -- ---- the lines flexed
 
 -- a list by line beyond its k lines: "cells past the last line get 0", up to n; and "all cells past the named ones are unchanged"
-pub record Beyond {A : Type 0} (none : A) (k n : ℕ) (old new : List A) : Type 0 where
+pub record Beyond {A : Type 0} (zero-cell : A) (k n : ℕ) (old new : List A) : Type 0 where
   pub long : length new ≡ length old
-  pub zeros : (j : ℕ) → k ≤ j → j < n → getD new j none ≡ none
-  pub kept : (j : ℕ) → n ≤ j → getD new j none ≡ getD old j none
+  pub zeros : (j : ℕ) → k ≤ j → j < n → getD new j zero-cell ≡ zero-cell
+  pub kept : (j : ℕ) → n ≤ j → getD new j zero-cell ≡ getD old j zero-cell
 
 -- every line is flexed by its own items alone; and the sum of the rounds
 pub record FlexedLines (inner gap : Float) (item : ℕ → Item) (n : ℕ) (counts : List ℕ) (sum : ℕ) (targets₀ : List Float) (free₀ : List ℤ) (rounds₀ : List ℕ) (targets : List Float) (free : List ℤ) (rounds : List ℕ) : Type 0 where

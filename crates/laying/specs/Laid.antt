@@ -20,7 +20,7 @@ use Rattle.sizelines.specs.Sizes.{crossSizes}
 use Rattle.crosslines.specs.Cross.{AcrossLines}
 use Rattle.container.specs.declared.Container.{Container}
 use Rattle.container.specs.Columns.{column, zeros, mainLists, mainItems, crossItems, alignSelf, autoSize}
-use Rattle.container.specs.Container.{limitOf, reversed, crossAxis}
+use Rattle.container.specs.Container.{limitSpace, reversed, crossAxis}
 
 -- ---- the lent lists
 
@@ -43,7 +43,7 @@ lent p l k r f w s = record { placed = p; lines = l; counts = k; rounds = r; fre
 -- so many lines, the sum of their rounds, and the container's inner cross size
 pub record Laid (c : Container) (n : ℕ) (x : List Float) (codes : List ℕ) (before : Lent) (lines sum : ℕ) (inner : Float) (after : Lent) : Type 0 where
   -- "Breaking", of the hypothetical outer main sizes
-  pub broken : wrapping.Wrapped (modeOf (c .wrap)) (limitOf c) (cleaned (c .«gap_main»)) (c .«minimum_lines») (outerSizes (itemsOf (mainLists n x codes))) (balance.lent (before .counts) (before .work) (before .sums)) lines (balance.lent (after .counts) (after .work) (after .sums))
+  pub broken : wrapping.Wrapped (modeOf (c .wrap)) (limitSpace c) (cleaned (c .«gap_main»)) (c .«minimum_lines») (outerSizes (itemsOf (mainLists n x codes))) (balance.lent (before .counts) (before .work) (before .sums)) lines (balance.lent (after .counts) (after .work) (after .sums))
   -- "Flexible lengths", of each line
   pub flexed : FlexedLines (cleaned (c .«inner_main»)) (cleaned (c .«gap_main»)) (itemAt (mainLists n x codes)) n (take lines (after .counts)) sum (zeros n) (before .free) (before .rounds) (column n 0 (after .placed)) (after .free) (after .rounds)
   -- "Main axis", of each line

@@ -86,8 +86,8 @@ largestOuter ls = largest (λ i. outerSize (itemAt ls i)) (count ls)
 
 -- "Line size is the inner cross size for a single-line definite container, else the largest outer cross size .. and zero, clamped by the
 -- container's inner cross bounds if single-line"
-unfoldable pub lineSize : Cross → Float → Float
-lineSize c x = cleaned (cond (isSingleLine (c .wrap)) (orBounded c (innerSize c) x) x)
+unfoldable pub lineCrossSize : Cross → Float → Float
+lineCrossSize c x = cleaned (cond (isSingleLine (c .wrap)) (orBounded c (innerSize c) x) x)
 
 abbrev pub lineOf : Cross → Items → Float
-lineOf c ls = lineSize (readCross c) (largestOuter ls)
+lineOf c ls = lineCrossSize (readCross c) (largestOuter ls)

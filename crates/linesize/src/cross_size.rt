@@ -2,7 +2,7 @@
 ghost use mathlib.Core.Path.{_≡_};
 ghost use Prim.Native.Nat.{_<_};
 ghost use lib.ListN.{length};
-ghost use Rattle.linesize.specs.CrossSize.{clamp, orNought, margins, outerSize, readItem, items, itemAt, largestOuter, lineSize, lineOf};
+ghost use Rattle.linesize.specs.CrossSize.{clamp, orNought, margins, outerSize, readItem, items, itemAt, largestOuter, lineCrossSize, lineOf};
 ghost use Rattle.linesize.specs.Parts.{OneLength};
 use crate::container;
 use crate::container::Cross;
@@ -140,7 +140,7 @@ fn largest_outer<'a>(
 
 // The size of a line whose items ask for x.
 fn line_size(c: Cross, x: f32) -> f32
-    ensures { λ r. ⌜ r ≡ lineSize c x ⌝ }
+    ensures { λ r. ⌜ r ≡ lineCrossSize c x ⌝ }
 {
     let wrap = c.wrap;
     if container::is_single_line(wrap) {

@@ -36,7 +36,7 @@ use Rattle.crosschecks.specs.declared.numbers.CrossNumbers.{CrossNumbers}
 use Rattle.container.specs.declared.Container.{Container}
 use Rattle.container.specs.Columns.{column, mainLists}
 use Rattle.breaklimit.specs.Limit.{spaceOf}
-use Rattle.container.specs.Container.{limitOf, balances, crossNumbersOf}
+use Rattle.container.specs.Container.{limitSpace, balances, crossNumbersOf}
 use Rattle.container.specs.Stages.{Listed}
 use Rattle.passchecks.specs.Checks.{containerNumbers, passInput, passSum, passVerdict}
 use Rattle.passchecks.proofs.Taken.{number-length}
@@ -154,7 +154,7 @@ module _ {c : Container} {n : ℕ} {x : List Float} {codes : List ℕ} {b : Lent
             gap-is = gap-is;
             breaks = record {
               wide = wide;
-              breakable = table-breakable t n (cleaned (c .«gap_main»)) table-is w (limitOf c) (given .few) (limit-length (c .«limit_kind») (c .limit) (limit-and-cross .0)) gap-is (g .1 .0, clean-size (c .«gap_main») (g .0) ∙ g .1 .1);
+              breakable = table-breakable t n (cleaned (c .«gap_main»)) table-is w (limitSpace c) (given .few) (limit-length (c .«limit_kind») (c .limit) (limit-and-cross .0)) gap-is (g .1 .0, clean-size (c .«gap_main») (g .0) ∙ g .1 .1);
               room = room-of (c .wrap) n (balance.lent (b .counts) (b .work) (b .sums)) (wrap-code (crossNumbersOf c) (limit-and-cross .1)) (given .counts-room) (given .work-room);
             };
             within = w;

@@ -16,7 +16,7 @@ use Rattle.laying.specs.Laid.{Lent}
 use Rattle.laying.proofs.OneLaid.{laid-one}
 use Rattle.pass.specs.declared.PassAnswer.{PassAnswer}
 use Rattle.pass.specs.declared.PassAnswer.the-variants.{Done, Refused}
-use Rattle.pass.specs.Pass.{Passed}
+use Rattle.pass.specs.Pass.{PassCall}
 
 done : {k k' sum sum' : ℕ} {inner inner' : Float} → k ≡ k' → sum ≡ sum' → inner ≡ inner' → Done k sum inner ≡ Done k' sum' inner'
 done p q r = cc
@@ -26,7 +26,7 @@ unfolding passVerdict
 passed-shape c n x codes room e = then-passed (shape n room) (checked (passInput c n x codes) (summed (passSum c n x codes))) e .0
 
 -- ANY TWO RESULTS THAT THE CONTRACT ALLOWS ARE EQUAL
-pub one-pass : (c : Container) (n : ℕ) (x : List Float) (codes : List ℕ) (b : Lent) (r s : PassAnswer) (a d : Lent) → Passed c n x codes b r a → Passed c n x codes b s d → (r ≡ s) × (a ≡ d)
+pub one-pass : (c : Container) (n : ℕ) (x : List Float) (codes : List ℕ) (b : Lent) (r s : PassAnswer) (a d : Lent) → PassCall c n x codes b r a → PassCall c n x codes b s d → (r ≡ s) × (a ≡ d)
 one-pass c n x codes b (Refused w) (Refused z) a d p q = (refused (sym (p .0) ∙ q .0), p .1 ∙ sym (q .1))
   where
     refused : verdict.Refused w ≡ verdict.Refused z → Refused w ≡ Refused z

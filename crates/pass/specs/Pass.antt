@@ -22,5 +22,6 @@ abbrev pub Answered : Verdict → Container → ℕ → List Float → List ℕ 
 Answered v c n x codes before (Refused why) after = (v ≡ verdict.Refused why) × (after ≡ before)
 Answered v c n x codes before (Done lines sum inner) after = (v ≡ verdict.Passed) × Laid c n x codes before lines sum inner after
 
-abbrev pub Passed : Container → ℕ → List Float → List ℕ → Lent → PassAnswer → Lent → Type 0
-Passed c n x codes before r after = Answered (verdictOf c n x codes before) c n x codes before r after
+-- THE CALL: it refuses by checks 1 to 6 and changes nothing, or its answer and its cells are those of an accepted run
+abbrev pub PassCall : Container → ℕ → List Float → List ℕ → Lent → PassAnswer → Lent → Type 0
+PassCall c n x codes before r after = Answered (verdictOf c n x codes before) c n x codes before r after

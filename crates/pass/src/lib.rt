@@ -2,7 +2,7 @@
 ghost use Rattle.refusal.specs.Domain.{summed};
 ghost use Rattle.passchecks.specs.Checks.{passSum};
 ghost use Rattle.laying.specs.Laid.{lent};
-ghost use Rattle.pass.specs.Pass.{Answered, Passed};
+ghost use Rattle.pass.specs.Pass.{Answered, PassCall};
 ghost use Rattle.pass.specs.Checked.{Checked};
 use container::Container;
 use passchecks::check_pass;
@@ -82,7 +82,7 @@ pub fn pass<'a>(
     work: &mut [u32],
     sums: &mut [f64],
 ) -> PassAnswer
-    ensures { λ r. ⌜ Passed c n (now (numbers .entry)) (now (codes .entry)) (lent (now (placed .entry)) (now (lines .entry)) (now (counts .entry)) (now (rounds .entry)) (now (free .entry)) (now (work .entry)) (now (sums .entry))) r (lent (now (placed .exit)) (now (lines .exit)) (now (counts .exit)) (now (rounds .exit)) (now (free .exit)) (now (work .exit)) (now (sums .exit))) ⌝ }
+    ensures { λ r. ⌜ PassCall c n (now (numbers .entry)) (now (codes .entry)) (lent (now (placed .entry)) (now (lines .entry)) (now (counts .entry)) (now (rounds .entry)) (now (free .entry)) (now (work .entry)) (now (sums .entry))) r (lent (now (placed .exit)) (now (lines .exit)) (now (counts .exit)) (now (rounds .exit)) (now (free .exit)) (now (work .exit)) (now (sums .exit))) ⌝ }
 {
     let v = check_pass(
         c,

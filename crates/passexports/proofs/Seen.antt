@@ -20,7 +20,7 @@ use Rattle.passchecks.specs.Checks.{passRoom, passVerdict, passInput, passSum}
 use Rattle.pass.specs.declared.PassAnswer.{PassAnswer}
 use Rattle.pass.specs.declared.PassAnswer.the-variants.{Done, Refused}
 use Rattle.laying.specs.Laid.{Lent}
-use Rattle.pass.specs.Pass.{Passed, verdictOf}
+use Rattle.pass.specs.Pass.{PassCall, verdictOf}
 use Rattle.records.specs.declared.Item.{Item}
 use Rattle.records.specs.Items.{numbersOf, codesOf}
 use Rattle.records.proofs.Laid.{taken-numbers, taken-codes}
@@ -45,7 +45,7 @@ unfolding isPassed
 refused-only why e = true≢false (sym (ap isPassed e))
 
 -- so what is said of so many is said of any other so many
-as-many : (c : Container) (n n′ : ℕ) (x x′ : List Float) (codes codes′ : List ℕ) (before after : Lent) (r : PassAnswer) → 1024 < n → 1024 < n′ → Passed c n x codes before r after → Passed c n′ x′ codes′ before r after
+as-many : (c : Container) (n n′ : ℕ) (x x′ : List Float) (codes codes′ : List ℕ) (before after : Lent) (r : PassAnswer) → 1024 < n → 1024 < n′ → PassCall c n x codes before r after → PassCall c n′ x′ codes′ before r after
 as-many c n n′ x x′ codes codes′ before after (Refused why) h h′ p = (too-many c n′ x′ codes′ before h′ ∙ sym (too-many c n x codes before h) ∙ p .0, p .1)
 as-many c n n′ x x′ codes codes′ before after (Done lines sum inner) h h′ p = absurd (refused-only TooManyItems (sym (too-many c n x codes before h) ∙ p .0))
 

@@ -8,7 +8,7 @@ use Rattle.container.specs.declared.Container.{Container}
 use Rattle.pass.specs.declared.PassAnswer.{PassAnswer}
 use Rattle.pass.specs.declared.PassAnswer.the-variants.{Done, Refused}
 use Rattle.laying.specs.Laid.{Lent}
-use Rattle.pass.specs.Pass.{Passed}
+use Rattle.pass.specs.Pass.{PassCall}
 use Rattle.crossing.specs.Crossing.{crossed}
 use Rattle.crossing.specs.declared.CAnswer.{CAnswer}
 use Rattle.passexports.specs.declared.CPassed.{CPassed}
@@ -25,4 +25,4 @@ cPassed (Refused why) = cRefused (crossed (refusalOf why))
 pub record PassedFromC (c : Container) (n : ℕ) (numbers : List Float) (codes : List ℕ) (before : Lent) (r : CPassed) (after : Lent) : Type 0 where
   pub inside : PassAnswer
   pub told : r ≡ cPassed inside
-  pub passed : Passed c n numbers codes before inside after
+  pub passed : PassCall c n numbers codes before inside after

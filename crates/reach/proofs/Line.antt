@@ -25,7 +25,7 @@ use Rattle.refusal.proofs.Checks.{accepted, then-passed, summed-passed, fine-ap
 use Rattle.flexing.specs.declared.Item.{Item}
 use Rattle.flexing.specs.declared.Line.{Line}
 use Rattle.grid.specs.Floats.{nought, each}
-use Rattle.flexing.specs.Flex.{Cell, after, round, begun, first, grows, lineOf, targets, outerSum}
+use Rattle.flexing.specs.Flex.{Cell, after, round, begun, startCell, grows, lineOf, targets, outerSum}
 use Rattle.flexing.specs.Items.{Lists, count, itemAt, itemsOf}
 use Rattle.itemtable.proofs.Each.{length-each}
 use Rattle.flexcalls.specs.declared.FlexAnswer.the-variants.{Done}
@@ -135,7 +135,7 @@ long-after ln zero l = refl
 long-after ln (suc k) l = long-map _ (after ln k l) ∙ long-after ln k l
 
 long-targets : (inner gap : Float) (items : List Item) (n : ℕ) → length (targets inner gap items n) ≡ length items
-long-targets inner gap items n = long-map (λ c. cleaned (c .target)) (after (lineOf inner gap items) n (begun inner gap items)) ∙ long-after (lineOf inner gap items) n (begun inner gap items) ∙ long-map (first (grows inner gap items)) items
+long-targets inner gap items n = long-map (λ c. cleaned (c .target)) (after (lineOf inner gap items) n (begun inner gap items)) ∙ long-after (lineOf inner gap items) n (begun inner gap items) ∙ long-map (startCell (grows inner gap items)) items
 
 module _ (inner gap : Float) (ls : Lists) (grow : Singles (ls .grow) (count ls)) (shrink : Singles (ls .shrink) (count ls)) where
   item-is : Sound (inputOf inner gap ls) → (i : ℕ) → i < count ls → IsItem (itemAt ls i)

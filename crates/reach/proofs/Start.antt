@@ -12,7 +12,7 @@ use lib.Ieee.{Float, lt, eq}
 use Rattle.grid.specs.Grid.{sixtyFourths}
 use Rattle.flexing.specs.declared.Item.{Item}
 use Rattle.grid.specs.Floats.{gaps, nought}
-use Rattle.flexing.specs.Flex.{Cell, hypothetical, outerUnits, sumUnits, freeBefore, grows, inflexible, factor, first, begun, remaining, lineOf}
+use Rattle.flexing.specs.Flex.{Cell, hypothetical, outerUnits, sumUnits, freeBefore, grows, inflexible, factor, startCell, begun, remaining, lineOf}
 use Rattle.reach.specs.Reach.{IsItem, IsLine}
 use Rattle.flexlaws.proofs.Signs.{All}
 use Rattle.reach.proofs.Units.{px, far, lt-num}
@@ -30,7 +30,7 @@ or-false : (a b : Bool) → a || b ≡ false → b ≡ false
 or-false true b e = absurd (mathlib.Core.Bool.true≢false e)
 or-false false b e = e
 
-pub first-sound : (g : Bool) {it : Item} → IsItem it → Sound g (first g it)
+pub first-sound : (g : Bool) {it : Item} → IsItem it → Sound g (startCell g it)
 unfolding inflexible
 first-sound g {it} i = record {
   item = fine i;
@@ -54,17 +54,17 @@ first-sound g {it} i = record {
     way false e = order' (far false (hypothetical it)) (far true (hypothetical it)) (far false (it .base)) (far true (it .base)) (bounded it (far false (it .base)))
         (lt-num (size-upto (i .base) .num) (hypothetical-far i .0) .1 (subst (λ (b : Bool). T (not b)) (sym e) tt)) (hypothetical-far i .2) (hypothetical-far i .1) (size-upto (i .base) .above)
 
-sounds : (g : Bool) (l : List Item) → All IsItem l → All (Sound g) (map (first g) l)
+sounds : (g : Bool) (l : List Item) → All IsItem l → All (Sound g) (map (startCell g) l)
 sounds g [] h = tt
 sounds g (it ∷ l) h = (first-sound g (h .0), sounds g l (h .1))
 
-long-first : (g : Bool) (l : List Item) → length (map (first g) l) ≡ length l
+long-first : (g : Bool) (l : List Item) → length (map (startCell g) l) ≡ length l
 long-first g [] = refl
 long-first g (it ∷ l) = ap suc (long-first g l)
 
 -- at the start every item counts with its hypothetical size
-grounds : (g : Bool) (l : List Item) → All IsItem l → count ground (map (first g) l) ≡ count (λ it. bounded it (far false (it .base))) l
-grounds g l h = count-map ground (first g) l ∙ count-alike (λ it. ground (first g it)) (λ it. bounded it (far false (it .base))) l (all-map (λ it i. go it i (inflexible g it)) l h)
+grounds : (g : Bool) (l : List Item) → All IsItem l → count ground (map (startCell g) l) ≡ count (λ it. bounded it (far false (it .base))) l
+grounds g l h = count-map ground (startCell g) l ∙ count-alike (λ it. ground (startCell g it)) (λ it. bounded it (far false (it .base))) l (all-map (λ it i. go it i (inflexible g it)) l h)
   where
     go : (it : Item) → IsItem it → (b : Bool) → cond b (far false (hypothetical it)) (bounded it (far false (it .base))) ≡ bounded it (far false (it .base))
     go it i true = hypothetical-far i .2
@@ -89,10 +89,10 @@ module _ (inner gap : Float) (items : List Item) (line : IsLine inner gap items)
       second a b c h = omega arith
 
   have-is : haves inner cells ≡ far false inner + count (λ it. far true (margin it)) items
-  have-is = ap (λ (k : ℕ). far false inner + k) (count-map (λ c. far true (margin (c .item))) (first (grows inner gap items)) items)
+  have-is = ap (λ (k : ℕ). far false inner + k) (count-map (λ c. far true (margin (c .item))) (startCell (grows inner gap items)) items)
 
   used-is : useds (gaps gap (length items)) cells ≡ far false (gaps gap (length items)) + count (λ it. far false (margin it)) items
-  used-is = ap (λ (k : ℕ). far false (gaps gap (length items)) + k) (count-map (λ c. far false (margin (c .item))) (first (grows inner gap items)) items)
+  used-is = ap (λ (k : ℕ). far false (gaps gap (length items)) + k) (count-map (λ c. far false (margin (c .item))) (startCell (grows inner gap items)) items)
 
   ground-is : count ground cells ≡ count (λ it. bounded it (far false (it .base))) items
   ground-is = grounds (grows inner gap items) items ok

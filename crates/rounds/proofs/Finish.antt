@@ -12,7 +12,7 @@ use lib.Ieee.{Float, nan}
 use Rattle.grid.specs.Floats.{each}
 use Rattle.flexing.specs.declared.Line.{Line}
 use Rattle.flexing.specs.declared.Sums.{Sums}
-use Rattle.flexing.specs.Flex.{Cell, first, remaining, after, Runs, freeBefore, grows, begun, lineOf, Flexed}
+use Rattle.flexing.specs.Flex.{Cell, startCell, remaining, after, Runs, freeBefore, grows, begun, lineOf, Flexed}
 use Rattle.flexing.specs.Steps.{Summed, spaceLeft}
 use Rattle.grid.specs.Grid.{cleaned}
 use Rattle.itemtable.specs.Table.{itemIn, itemsIn, Kept}
@@ -43,11 +43,11 @@ abbrev pub lineFrom : Float → Float → Float → Bool → Line
 lineFrom inner gap initial growing = record { inner = inner; gap = gap; initial = initial; growing = growing }
 
 module _ (t : List Float) (from n : ℕ) (inner gap : Float) (free : ℤ) (growing : Bool) (targets₀ : List Float) (frozen₁ : List Bool) (targets₁ : List Float) (s : Sums) (initial : Float) (rounds : ℕ) (frozen₂ : List Bool) (targets₂ targets₃ : List Float)
-    (ef : free ≡ freeBefore inner gap (itemsIn t from n)) (eg : growing ≡ grows inner gap (itemsIn t from n)) (w : Rewritten t from n (map (first growing) (itemsIn t from n)) targets₀ frozen₁ targets₁)
+    (ef : free ≡ freeBefore inner gap (itemsIn t from n)) (eg : growing ≡ grows inner gap (itemsIn t from n)) (w : Rewritten t from n (map (startCell growing) (itemsIn t from n)) targets₀ frozen₁ targets₁)
     (u : Summed growing (cellsOf t from n frozen₁ targets₁) s) (q : initial ≡ spaceLeft inner gap n (s .outer)) (r : Ran t from n (lineFrom inner gap initial growing) rounds frozen₁ targets₁ frozen₂ targets₂)
     (tidied : (k : ℕ) → k < n → getD targets₃ k nan ≡ cleaned (getD targets₂ k nan)) (kept : Kept n targets₂ targets₃) (room : n ≤ length targets₀) (long : length targets₃ ≡ length targets₀) where
   started : cellsOf t from n frozen₁ targets₁ ≡ begun inner gap (itemsIn t from n)
-  started = w .cells-are ∙ ap (λ (g : Bool). map (first g) (itemsIn t from n)) eg
+  started = w .cells-are ∙ ap (λ (g : Bool). map (startCell g) (itemsIn t from n)) eg
 
   flows : lineFrom inner gap initial growing ≡ lineOf inner gap (itemsIn t from n)
   flows = ap₂ (λ (i : Float) (g : Bool). lineFrom inner gap i g) (q ∙ remaining-is inner gap (cellsOf t from n frozen₁ targets₁) n (s .outer) (sym (length-each n (cellAt t from frozen₁ targets₁))) (u .outer) ∙ ap (λ (l : List Cell). remaining inner gap l) started) eg
@@ -62,7 +62,7 @@ module _ (t : List Float) (from n : ℕ) (inner gap : Float) (free : ℤ) (growi
   finish = record {
     space = ef;
     number = runs;
-    few = le-trans {m = length (begun inner gap (itemsIn t from n))} (rounds-few (lineOf inner gap (itemsIn t from n)) (begun inner gap (itemsIn t from n)) rounds runs) (le-of-eq (length-map (itemsIn t from n) (first (grows inner gap (itemsIn t from n)))));
+    few = le-trans {m = length (begun inner gap (itemsIn t from n))} (rounds-few (lineOf inner gap (itemsIn t from n)) (begun inner gap (itemsIn t from n)) rounds runs) (le-of-eq (length-map (itemsIn t from n) (startCell (grows inner gap (itemsIn t from n)))));
     cells =
         parts n targets₀ targets₃ (λ k. cleaned (getD targets₂ k nan)) room long tidied (λ k h. kept k h ∙ r .written .kept k h ∙ w .kept k h)
         ∙ ap₂ (λ (a : List Float) (m : ℕ). a ++ drop m targets₀) (sym (map-each (λ c. cleaned (c .target)) n (cellAt t from frozen₂ targets₂)) ∙ ap (λ (l : List Cell). map (λ c. cleaned (c .target)) l) ended) (sym (length-each n (λ i. itemIn t (from + i))));

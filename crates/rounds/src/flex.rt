@@ -5,7 +5,7 @@ ghost use Prim.Native.Nat.{ℕ, _+_, _≤_, _<_};
 ghost use lib.ListN.{length, getD};
 ghost use lib.Ieee.{nan};
 ghost use Rattle.grid.specs.Grid.{cleaned};
-ghost use Rattle.flexing.specs.Flex.{total, outer, hypothetical, first, freeBefore, Flexed};
+ghost use Rattle.flexing.specs.Flex.{total, outer, hypothetical, startCell, freeBefore, Flexed};
 ghost use Rattle.flexing.specs.Accepted.{Accepted};
 ghost use Rattle.flexing.specs.Steps.{Summed};
 ghost use Rattle.itemtable.specs.Table.{Wide, itemsIn, Kept};
@@ -58,7 +58,7 @@ fn begin(
     targets: &mut [f32],
 )
     requires { ⌜ Room (now table) from n (now frozen) (now targets) ⌝ }
-    ensures { λ _. ⌜ Rewritten (now (table .entry)) from n (map (first growing) (itemsIn (now (table .entry)) from n)) (now (targets .entry)) (now (frozen .exit)) (now (targets .exit)) ⌝ }
+    ensures { λ _. ⌜ Rewritten (now (table .entry)) from n (map (startCell growing) (itemsIn (now (table .entry)) from n)) (now (targets .entry)) (now (frozen .exit)) (now (targets .exit)) ⌝ }
 {
     let mut i = 0;
     while i < n {

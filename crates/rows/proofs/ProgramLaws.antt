@@ -21,7 +21,7 @@ use Rattle.choice.specs.Cells.{Ghost, value, Ready, RowIn, Choice, CoversIn, Sa
 use Rattle.cells.proofs.SumsLaws.{size-holds}
 use Rattle.choice.proofs.Steps.{small-square, row-laws}
 use Rattle.fitting.specs.Tables.{SumsAre, Falling, Reaches, FirstFor}
-use Rattle.rows.specs.Program.{counted, TablesAre, Within, PrevIs, RowSafe, RowFor, OneRow, RowKept, RowsSoFar, RowBase}
+use Rattle.rows.specs.Program.{countAt, TablesAre, Within, PrevIs, RowSafe, RowFor, OneRow, RowKept, RowsSoFar, RowBase}
 
 -- the next line starts at an end that the line may have
 pub within-next : (n : ℕ) (fit reach : List ℕ) (G : ℕ → ℕ) (Z : ℕ → Type 0) (k j s t : ℕ) → length fit ≡ n → Reaches fit reach → j + 1 < n → Within reach j s → Usable n (ends fit) G Z k s t → Within reach (j + 1) t
@@ -31,7 +31,7 @@ within-next n fit reach G Z k j s t fl R jn w u = record {
 }
 
 abbrev pub ghost-of : Limit → ℕ → List ℕ → List ℕ → List ℕ → ℕ → ℕ → Ghost
-ghost-of L g xs greedy reach k j = record { limit = L; gap = g; xs = xs; G = counted greedy; k = k; lo = j; hi = getD reach j 0 }
+ghost-of L g xs greedy reach k j = record { limit = L; gap = g; xs = xs; G = countAt greedy; k = k; lo = j; hi = getD reach j 0 }
 
 pub row-safe : (sums : List Float) (fit : List ℕ) (prev : List Float) (lines : ℕ) → RowSafe sums fit prev lines → Safe sums fit prev (length prev - lines) (length prev - lines + 1)
 row-safe sums fit prev lines S = record {
@@ -121,8 +121,8 @@ rows-more sums gap fit greedy reach K prev₀ prev prev′ opts part opts′ lin
         n-is : length sums ≡ length xs
         n-is = T .sums-are .count
 
-        law : Laws (length xs) (ends fit) (counted greedy) (ZeroAt xs) (squareAt g xs)
-        law = laws L g xs (ends fit) (counted greedy) (T .fits-are) (T .counts-are)
+        law : Laws (length xs) (ends fit) (countAt greedy) (ZeroAt xs) (squareAt g xs)
+        law = laws L g xs (ends fit) (countAt greedy) (T .fits-are) (T .counts-are)
 
         P : PrevIs g xs fit greedy reach prev k₁ (j + 1)
         P = subst (PrevIs g xs fit greedy reach prev k₁) j-next (R .out L g xs T P₀ .0)
@@ -153,27 +153,27 @@ rows-more sums gap fit greedy reach K prev₀ prev prev′ opts part opts′ lin
           to = λ s p l h. A .step j s (omega (arith, k-is)) (rw (← j-is) (omega arith)) (omega (arith, n-is));
         }
 
-        lo-at : (s : ℕ) → Feas (length xs) (counted greedy) s (suc k₁) → Within reach j s → lo ≤ s
+        lo-at : (s : ℕ) → Feas (length xs) (countAt greedy) s (suc k₁) → Within reach j s → lo ≤ s
         lo-at s f w = go (lt-or-ge s from)
           where
             go : (s < from) ⊎ (from ≤ s) → lo ≤ s
             go (inl h) = absurd (omega (arith, ff .early s h, f .enough, k-is))
             go (inr h) = omega (arith, w .from, j-is)
 
-        now : (s : ℕ) → Feas (length xs) (counted greedy) s (suc k₁) → Within reach j s
+        now : (s : ℕ) → Feas (length xs) (countAt greedy) s (suc k₁) → Within reach j s
             → Choice (ghost-of L g xs greedy reach k₁ (j + 1)) fit prev s (getD part s 0) × Holds (getD prev′ s nan) (squareAt g xs s (ends part s) + value prev (ends part s))
         now s f w = O .out (ghost-of L g xs greedy reach k₁ (j + 1)) in-row row-for s (lo-at s f w) (rw (lae, j-is) (w .to)) f
 
-        inside : (s : ℕ) → Feas (length xs) (counted greedy) s (suc k₁) → s < length sums
+        inside : (s : ℕ) → Feas (length xs) (countAt greedy) s (suc k₁) → s < length sums
         inside s f = omega (arith, f .room, n-is)
 
-        new-value : (s : ℕ) → Feas (length xs) (counted greedy) s (suc k₁) → Within reach j s → value prev′ s ≡ squareAt g xs s (ends part s) + value prev (ends part s)
+        new-value : (s : ℕ) → Feas (length xs) (countAt greedy) s (suc k₁) → Within reach j s → value prev′ s ≡ squareAt g xs s (ends part s) + value prev (ends part s)
         new-value s f w = whole-is (getD prev′ s nan) (squareAt g xs s (ends part s) + value prev (ends part s)) (now s f w .1)
 
         next-prev : PrevIs g xs fit greedy reach prev′ (suc k₁) (K - suc k₁)
         next-prev = record {
-          costs = λ s f w. rw (new-value s f w) (extend-costs (length xs) (ends fit) (counted greedy) (ZeroAt xs) (squareAt g xs) law k₁ s (ends part s) (value prev)
-              (λ u h. P .costs u (h .feas) (within-next (length xs) fit reach (counted greedy) (ZeroAt xs) k₁ j s u (fl ∙ n-is) A (omega (arith, k-is, n-is)) w h)) (now s f w .0));
+          costs = λ s f w. rw (new-value s f w) (extend-costs (length xs) (ends fit) (countAt greedy) (ZeroAt xs) (squareAt g xs) law k₁ s (ends part s) (value prev)
+              (λ u h. P .costs u (h .feas) (within-next (length xs) fit reach (countAt greedy) (ZeroAt xs) k₁ j s u (fl ∙ n-is) A (omega (arith, k-is, n-is)) w h)) (now s f w .0));
           holds = λ s f w. rw (new-value s f w) (now s f w .1);
         }
 
@@ -253,17 +253,17 @@ pub first-prev : (L : Limit) (g : ℕ) (xs : List ℕ) (sums : List Float) (gap 
     → ((s : ℕ) → s < length sums → getD prev s nan ≡ mul binary64 (sizeF sums gap s (length sums - 1)) (sizeF sums gap s (length sums - 1)))
     → PrevIs g xs fit greedy reach prev 1 j
 first-prev L g xs sums gap fit greedy reach prev j T E = record {
-  costs = λ s f _. rw (is s f) (row-one (length xs) (ends fit) (counted greedy) (ZeroAt xs) (squareAt g xs) law s f);
+  costs = λ s f _. rw (is s f) (row-one (length xs) (ends fit) (countAt greedy) (ZeroAt xs) (squareAt g xs) law s f);
   holds = λ s f _. rw (is s f) (held-at s f);
 }
   where
-    law : Laws (length xs) (ends fit) (counted greedy) (ZeroAt xs) (squareAt g xs)
-    law = laws L g xs (ends fit) (counted greedy) (T .fits-are) (T .counts-are)
+    law : Laws (length xs) (ends fit) (countAt greedy) (ZeroAt xs) (squareAt g xs)
+    law = laws L g xs (ends fit) (countAt greedy) (T .fits-are) (T .counts-are)
 
     A : SumsAre g xs sums gap
     A = T .sums-are
 
-    held-at : (s : ℕ) → Feas (length xs) (counted greedy) s 1 → Holds (getD prev s nan) (squareAt g xs s (length xs))
+    held-at : (s : ℕ) → Feas (length xs) (countAt greedy) s 1 → Holds (getD prev s nan) (squareAt g xs s (length xs))
     held-at s f =
         let z = sizeF sums gap s (length sums - 1) in
         let e : suc (length sums - 1) ≡ length xs = omega (arith, A .count, f .room) in
@@ -271,5 +271,5 @@ first-prev L g xs sums gap fit greedy reach prev j T E = record {
         rw (E s (omega (arith, A .count, f .room)))
         (mul-holds z z (sizeAt g xs s (length xs)) (sizeAt g xs s (length xs)) h h (omega (arith, small-square (sizeAt g xs s (length xs)) (pre g xs (length xs)) (omega arith) (A .small))))
 
-    is : (s : ℕ) → Feas (length xs) (counted greedy) s 1 → value prev s ≡ squareAt g xs s (length xs)
+    is : (s : ℕ) → Feas (length xs) (countAt greedy) s 1 → value prev s ≡ squareAt g xs s (length xs)
     is s f = whole-is (getD prev s nan) (squareAt g xs s (length xs)) (held-at s f)

@@ -7,14 +7,14 @@ use native.Mathlib.Omega.{arith}
 use lib.Ieee.{Float}
 use denote.Ref.{now}
 use Rattle.flexing.specs.declared.Item.{Item}
-use Rattle.flexing.specs.Flex.{Cell, inflexible, hypothetical, first}
+use Rattle.flexing.specs.Flex.{Cell, inflexible, hypothetical, startCell}
 use Rattle.itemtable.specs.Table.{itemIn}
 use Rattle.itemtable.proofs.Each.{put, Turned, turned-none, turned-next, turned-all, map-each}
 use Rattle.rounds.proofs.flex.begin.Statement.{statement}
 use Rattle.rounds.proofs.flex.begin.Tie as tie
 
 abbrev Inv-loop : tie.InvT-loop
-Inv-loop table from n growing frozen₀ targets₀ i₀ frozen targets i = Turned n (λ k. first growing (itemIn table (from + k))) (λ k. itemIn table (from + k)) frozen₀ targets₀ frozen targets i
+Inv-loop table from n growing frozen₀ targets₀ i₀ frozen targets i = Turned n (λ k. startCell growing (itemIn table (from + k))) (λ k. itemIn table (from + k)) frozen₀ targets₀ frozen targets i
 
 abbrev μ-loop : tie.MeasureT-loop
 μ-loop table from n growing frozen₀ targets₀ i₀ frozen targets i = n - i
@@ -24,7 +24,7 @@ abbrev items : tie.Start Inv-loop μ-loop → ℕ → Item
 items s k = itemIn (now (s .args .table)) (s .args .from + k)
 
 abbrev want : tie.Start Inv-loop μ-loop → ℕ → Cell
-want s k = first (s .args .growing) (items s k)
+want s k = startCell (s .args .growing) (items s k)
 
 loop-holds : tie.Need-loop-holds Inv-loop μ-loop
 loop-holds c = let s = c .before .before .before in turned-none (s .args .n) (want s) (items s) (now (s .args .frozen)) (now (s .args .targets))
@@ -75,7 +75,7 @@ returns c =
     let l = c .before .loop in
     let s = c .before .before .before .before .before in
     record {
-      cells-are = turned-all (s .args .n) (want s) (items s) (now (s .args .frozen)) (now (s .args .targets)) (l .frozen) (l .targets) (l .i) (l .inv) (c .loop-test .left) ∙ sym (map-each (first (s .args .growing)) (s .args .n) (items s));
+      cells-are = turned-all (s .args .n) (want s) (items s) (now (s .args .frozen)) (now (s .args .targets)) (l .frozen) (l .targets) (l .i) (l .inv) (c .loop-test .left) ∙ sym (map-each (startCell (s .args .growing)) (s .args .n) (items s));
       kept = λ k h. l .inv .rest k (le-trans (l .inv .inside) h);
     }
 
