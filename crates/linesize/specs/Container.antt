@@ -16,11 +16,11 @@ use Rattle.linesize.specs.declared.container.Cross.{Cross}
 -- ---- wrapping, by its code
 
 abbrev pub wraps : List Wrap
-wraps = wrap.NoWrap ∷ wrap.Wrap ∷ wrap.WrapReverse ∷ wrap.Balance ∷ []
+wraps = wrap.NoWrap ∷ wrap.Wrap ∷ wrap.WrapReverse ∷ wrap.Balance ∷ wrap.BalanceReverse ∷ []
 
--- codes 0 to 3, and 4 for balance-reverse
+-- codes 0 to 4. Any other is refused with 5; it reads as nowrap, so that it asks for no work cells before
 abbrev pub wrapOf : ℕ → Wrap
-wrapOf c = getD wraps c wrap.BalanceReverse
+wrapOf c = getD wraps c wrap.NoWrap
 
 abbrev pub isSingleLine : Wrap → Bool
 isSingleLine wrap.NoWrap = true

@@ -22,6 +22,7 @@ pub struct Cross {
     pub wrap: Wrap,
 }
 
+// A code above 4 is refused by the checks. It reads as nowrap, so that check 2 asks no work cells for it.
 pub fn wrap_of(code: u32) -> Wrap
     ensures { λ r. ⌜ r ≡ wrapOf code ⌝ }
 {
@@ -30,7 +31,8 @@ pub fn wrap_of(code: u32) -> Wrap
         1 => Wrap::Wrap,
         2 => Wrap::WrapReverse,
         3 => Wrap::Balance,
-        _ => Wrap::BalanceReverse,
+        4 => Wrap::BalanceReverse,
+        _ => Wrap::NoWrap,
     }
 }
 
