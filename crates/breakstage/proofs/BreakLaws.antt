@@ -19,7 +19,7 @@ use Rattle.wrapping.specs.Outer.{outerSizes}
 use Rattle.wrapping.proofs.Given.{sizes-long}
 use Rattle.wrapping.proofs.Division.{Divides, lines-divide, read-back}
 use Rattle.container.specs.declared.Container.{Container}
-use Rattle.container.specs.Container.{limitSpace}
+use Rattle.container.specs.Container.{limitSpace, wrapMode}
 use Rattle.breakstage.specs.BreakStage.{Broken}
 
 -- ---- breaking
@@ -55,10 +55,10 @@ module _ (mode : Mode) (limit : AvailableSpace) (gap : Float) (minimum : ℕ) (s
 
 module _ (c : Container) (n : ℕ) (t : List Float) {b a : Lent} {k : ℕ} (w : Broken c n t b k a) where
   lines-back : take k (a .counts) ≡ w .lines
-  lines-back = wrapped-back (modeOf (c .wrap)) (limitSpace c) (cleaned (c .«gap_main»)) (c .«minimum_lines») (outerSizes (itemsIn t 0 n)) w
+  lines-back = wrapped-back (modeOf (wrapMode c)) (limitSpace c) (cleaned (c .«gap_main»)) (c .«minimum_lines») (outerSizes (itemsIn t 0 n)) w
 
   pub divides-of : Divides n (take k (a .counts))
-  divides-of = subst (λ (m : ℕ). Divides m (take k (a .counts))) (sizes-long t n) (wrapped-divides (modeOf (c .wrap)) (limitSpace c) (cleaned (c .«gap_main»)) (c .«minimum_lines») (outerSizes (itemsIn t 0 n)) w)
+  divides-of = subst (λ (m : ℕ). Divides m (take k (a .counts))) (sizes-long t n) (wrapped-divides (modeOf (wrapMode c)) (limitSpace c) (cleaned (c .«gap_main»)) (c .«minimum_lines») (outerSizes (itemsIn t 0 n)) w)
 
   pub lines-long : length (take k (a .counts)) ≡ k
   lines-long = ap length lines-back ∙ sym (w .number)

@@ -5,20 +5,22 @@ ghost use Rattle.wrapping.specs.Wrapping.{modeOf};
 ghost use Rattle.breakstage.specs.BreakStage.{Breaks, Broken};
 use breaklimit::space_of;
 use container::Container;
+use linesize::container::Wrap;
+use linesize::container::wrap_of;
 use wrapping::Mode;
 use wrapping::break_lines;
 use wrapping::outer_sizes;
 
-fn mode_of(wrap: u32) -> Mode
+fn mode_of(wrap: Wrap) -> Mode
     ensures { λ r. ⌜ r ≡ modeOf wrap ⌝ }
 {
-    if wrap == 0 {
-        return Mode::Single;
+    match wrap {
+        Wrap::NoWrap => Mode::Single,
+        Wrap::Wrap => Mode::Greedy,
+        Wrap::WrapReverse => Mode::Greedy,
+        Wrap::Balance => Mode::Balanced,
+        Wrap::BalanceReverse => Mode::Balanced,
     }
-    if wrap < 3 {
-        return Mode::Greedy;
-    }
-    Mode::Balanced
 }
 
 // The lines of a table's items, by the wrap mode: counts by line, and how many lines there are. No entry point: it asks what the checks show.
@@ -36,7 +38,7 @@ pub fn break_items(
     let mut sizes = [0.0; 1024];
     outer_sizes(table, n, &mut sizes);
     break_lines(
-        mode_of(c.wrap),
+        mode_of(wrap_of(c.wrap)),
         space_of(c.limit_kind, c.limit),
         grid::clean(c.gap_main),
         c.minimum_lines,

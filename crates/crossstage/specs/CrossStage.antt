@@ -5,14 +5,14 @@ use Prim.Native.Nat.{ℕ, _*_, _≤_, _<_}
 use lib.ListN.{length}
 use lib.Ieee.{Float}
 use Rattle.align.specs.Align.{contentOf}
-use Rattle.linesize.specs.Container.{wrapOf, isReversed}
+use Rattle.linesize.specs.Container.{isReversed}
 use Rattle.crossaxis.specs.Lines.{Aligned}
 use Rattle.bylines.specs.Parts.{Division, Past}
 use Rattle.sizelines.specs.Sizes.{crossSizes}
 use Rattle.crosslines.specs.Cross.{AcrossLines}
 use Rattle.container.specs.declared.Container.{Container}
 use Rattle.container.specs.Columns.{column, zeros, crossItems, alignSelf, autoSize}
-use Rattle.container.specs.Container.{crossAxis}
+use Rattle.container.specs.Container.{wrapMode, crossAxis}
 use Rattle.container.specs.Stages.{Listed}
 
 -- what the checks and the breaking before it have shown: the items' lists, and lines that have the n items
@@ -33,7 +33,7 @@ pub record LinesPlaced (c : Container) (n : ℕ) (x : List Float) (codes counts 
 
 -- the items across their lines
 abbrev pub PlacedAcross : Container → ℕ → List Float → List ℕ → List ℕ → List Float → List Float → List Float → List Float → List Float → List Float → List Float → List Float → List Float → Type 0
-PlacedAcross c n x codes counts lines = AcrossLines (isReversed (wrapOf (c .wrap))) counts lines (crossItems n x codes) (alignSelf n codes) (autoSize n codes)
+PlacedAcross c n x codes counts lines = AcrossLines (isReversed (wrapMode c)) counts lines (crossItems n x codes) (alignSelf n codes) (autoSize n codes)
 
 -- in lists 4 to 7 by item: cross size, cross offset, used margins
 pub record ItemsAcross (c : Container) (n : ℕ) (x : List Float) (codes counts : List ℕ) (lines old new : List Float) : Type 0 where

@@ -17,7 +17,7 @@ use Rattle.balance.specs.Calls as balance
 use Rattle.wrapping.specs.Outer.{outerSizes}
 use Rattle.wrapping.proofs.Division.{no-choice}
 use Rattle.align.specs.Align.{contentOf}
-use Rattle.linesize.specs.Container.{wrapOf, isReversed}
+use Rattle.linesize.specs.Container.{isReversed}
 use Rattle.crossaxis.specs.Lines.{Aligned}
 use Rattle.bylines.specs.Parts.{Division, Past}
 use Rattle.mainlines.specs.Main.{MainLines}
@@ -27,7 +27,7 @@ use Rattle.mainlines.proofs.Spacing as spacing
 use Rattle.crosslines.proofs.Placing as placing
 use Rattle.container.specs.declared.Container.{Container}
 use Rattle.container.specs.Columns.{column, mainLists, crossItems, alignSelf, autoSize, zeros, mainItems}
-use Rattle.container.specs.Container.{limitSpace, reversed, crossAxis}
+use Rattle.container.specs.Container.{limitSpace, reversed, wrapMode, crossAxis}
 use Rattle.container.specs.Stages.{Listed}
 use Rattle.container.proofs.ColumnLaws.{before, length-column}
 use Rattle.passchecks.proofs.Taken.{number-length}
@@ -67,13 +67,13 @@ module _ (c : Container) (n : ℕ) (x : List Float) (codes : List ℕ) (b : Lent
 
   module _ {k k' sum sum' : ℕ} {inner inner' : Float} {a d : Lent} (p : Laid c n x codes b k sum inner a) (q : Laid c n x codes b k' sum' inner' d) where
     lines-one : (k ≡ k') × (balance.lent (a .counts) (a .work) (a .sums) ≡ balance.lent (d .counts) (d .work) (d .sums))
-    lines-one = no-choice (limitSpace c) (cleaned (c .«gap_main»)) (c .«minimum_lines») (outerSizes (itemsOf (mainLists n x codes))) (modeOf (c .wrap)) _ k k' _ _ (p .broken) (q .broken)
+    lines-one = no-choice (limitSpace c) (cleaned (c .«gap_main»)) (c .«minimum_lines») (outerSizes (itemsOf (mainLists n x codes))) (modeOf (wrapMode c)) _ k k' _ _ (p .broken) (q .broken)
 
     counts-one : take k' (d .counts) ≡ take k (a .counts)
     counts-one = sym (ap₂ (λ (j : ℕ) (y : balance.Lent). take j (y .counts)) (lines-one .0) (lines-one .1))
 
     division : Division (take k (a .counts)) n
-    division = wrapped-divides (modeOf (c .wrap)) (limitSpace c) (cleaned (c .«gap_main»)) (c .«minimum_lines») (outerSizes (itemsOf (mainLists n x codes))) (p .broken) .whole ∙ many
+    division = wrapped-divides (modeOf (wrapMode c)) (limitSpace c) (cleaned (c .«gap_main»)) (c .«minimum_lines») (outerSizes (itemsOf (mainLists n x codes))) (p .broken) .whole ∙ many
 
     flexed-one : OneFlexed sum sum' (column n 0 (a .placed)) (column n 0 (d .placed)) (a .free) (d .free) (a .rounds) (d .rounds)
     flexed-one = one-flexed (take k (a .counts)) division (p .flexed) (subst (λ (y : List ℕ). FlexedLines (cleaned (c .«inner_main»)) (cleaned (c .«gap_main»)) (itemAt (mainLists n x codes)) n y sum' (zeros n) (b .free) (b .rounds) (column n 0 (d .placed)) (d .free) (d .rounds)) counts-one (q .flexed))
@@ -96,8 +96,8 @@ module _ (c : Container) (n : ℕ) (x : List Float) (codes : List ℕ) (b : Lent
     across-one : placing.Same (column n 4 (a .placed)) (column n 6 (a .placed)) (column n 7 (a .placed)) (column n 5 (a .placed)) (column n 4 (d .placed)) (column n 6 (d .placed)) (column n 7 (d .placed)) (column n 5 (d .placed))
     across-one =
         placing.across-determined (take k (a .counts)) (column n 0 (a .lines)) (crossItems n x codes) (alignSelf n codes) (autoSize n codes) (zeros n) (zeros n) (zeros n) (zeros n) (division ∙ sym (number-length l 8 (omega arith))) (p .across)
-        (subst (λ (y : List Float). AcrossLines (isReversed (wrapOf (c .wrap))) (take k (a .counts)) y (crossItems n x codes) (alignSelf n codes) (autoSize n codes) (zeros n) (zeros n) (zeros n) (zeros n) (column n 4 (d .placed)) (column n 6 (d .placed)) (column n 7 (d .placed)) (column n 5 (d .placed))) (sym (aligned-one .1))
-        (subst (λ (y : List ℕ). AcrossLines (isReversed (wrapOf (c .wrap))) y (column n 0 (d .lines)) (crossItems n x codes) (alignSelf n codes) (autoSize n codes) (zeros n) (zeros n) (zeros n) (zeros n) (column n 4 (d .placed)) (column n 6 (d .placed)) (column n 7 (d .placed)) (column n 5 (d .placed))) counts-one (q .across)))
+        (subst (λ (y : List Float). AcrossLines (isReversed (wrapMode c)) (take k (a .counts)) y (crossItems n x codes) (alignSelf n codes) (autoSize n codes) (zeros n) (zeros n) (zeros n) (zeros n) (column n 4 (d .placed)) (column n 6 (d .placed)) (column n 7 (d .placed)) (column n 5 (d .placed))) (sym (aligned-one .1))
+        (subst (λ (y : List ℕ). AcrossLines (isReversed (wrapMode c)) y (column n 0 (d .lines)) (crossItems n x codes) (alignSelf n codes) (autoSize n codes) (zeros n) (zeros n) (zeros n) (zeros n) (column n 4 (d .placed)) (column n 6 (d .placed)) (column n 7 (d .placed)) (column n 5 (d .placed))) counts-one (q .across)))
 
     placed-one : a .placed ≡ d .placed
     placed-one = by-columns n 8 (b .placed) (a .placed) (d .placed) (p .placed-past) (q .placed-past) each

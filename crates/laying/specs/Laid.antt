@@ -12,7 +12,7 @@ use Rattle.wrapping.specs.Wrapping as wrapping
 use Rattle.wrapping.specs.Wrapping.{modeOf}
 use Rattle.wrapping.specs.Outer.{outerSizes}
 use Rattle.align.specs.Align.{contentOf}
-use Rattle.linesize.specs.Container.{wrapOf, isReversed}
+use Rattle.linesize.specs.Container.{isReversed}
 use Rattle.crossaxis.specs.Lines.{Aligned}
 use Rattle.bylines.specs.Parts.{Past}
 use Rattle.mainlines.specs.Main.{MainLines}
@@ -20,7 +20,7 @@ use Rattle.sizelines.specs.Sizes.{crossSizes}
 use Rattle.crosslines.specs.Cross.{AcrossLines}
 use Rattle.container.specs.declared.Container.{Container}
 use Rattle.container.specs.Columns.{column, zeros, mainLists, mainItems, crossItems, alignSelf, autoSize}
-use Rattle.container.specs.Container.{limitSpace, reversed, crossAxis}
+use Rattle.container.specs.Container.{limitSpace, reversed, wrapMode, crossAxis}
 
 -- ---- the lent lists
 
@@ -43,7 +43,7 @@ lent p l k r f w s = record { placed = p; lines = l; counts = k; rounds = r; fre
 -- so many lines, the sum of their rounds, and the container's inner cross size
 pub record Laid (c : Container) (n : ℕ) (x : List Float) (codes : List ℕ) (before : Lent) (lines sum : ℕ) (inner : Float) (after : Lent) : Type 0 where
   -- "Breaking", of the hypothetical outer main sizes
-  pub broken : wrapping.Wrapped (modeOf (c .wrap)) (limitSpace c) (cleaned (c .«gap_main»)) (c .«minimum_lines») (outerSizes (itemsOf (mainLists n x codes))) (balance.lent (before .counts) (before .work) (before .sums)) lines (balance.lent (after .counts) (after .work) (after .sums))
+  pub broken : wrapping.Wrapped (modeOf (wrapMode c)) (limitSpace c) (cleaned (c .«gap_main»)) (c .«minimum_lines») (outerSizes (itemsOf (mainLists n x codes))) (balance.lent (before .counts) (before .work) (before .sums)) lines (balance.lent (after .counts) (after .work) (after .sums))
   -- "Flexible lengths", of each line
   pub flexed : FlexedLines (cleaned (c .«inner_main»)) (cleaned (c .«gap_main»)) (itemAt (mainLists n x codes)) n (take lines (after .counts)) sum (zeros n) (before .free) (before .rounds) (column n 0 (after .placed)) (after .free) (after .rounds)
   -- "Main axis", of each line
@@ -51,7 +51,7 @@ pub record Laid (c : Container) (n : ℕ) (x : List Float) (codes : List ℕ) (b
   -- "Cross axis": the lines, sized by their items, along it
   pub aligned : Aligned (crossAxis c) (contentOf (c .«align_content»)) (crossSizes (crossAxis c) (take lines (after .counts)) (crossItems n x codes) []) (zeros n) (zeros n) inner (column n 0 (after .lines)) (column n 1 (after .lines))
   -- and the items across each line
-  pub across : AcrossLines (isReversed (wrapOf (c .wrap))) (take lines (after .counts)) (column n 0 (after .lines)) (crossItems n x codes) (alignSelf n codes) (autoSize n codes) (zeros n) (zeros n) (zeros n) (zeros n) (column n 4 (after .placed)) (column n 6 (after .placed)) (column n 7 (after .placed)) (column n 5 (after .placed))
+  pub across : AcrossLines (isReversed (wrapMode c)) (take lines (after .counts)) (column n 0 (after .lines)) (crossItems n x codes) (alignSelf n codes) (autoSize n codes) (zeros n) (zeros n) (zeros n) (zeros n) (column n 4 (after .placed)) (column n 6 (after .placed)) (column n 7 (after .placed)) (column n 5 (after .placed))
   -- "all cells past the named ones are unchanged"
   pub placed-past : Past (8 * n) (before .placed) (after .placed)
   pub lines-past : Past (2 * n) (before .lines) (after .lines)

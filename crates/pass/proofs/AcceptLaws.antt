@@ -1,14 +1,13 @@
 -- What the checks show of a pass: what every stage of it asks. By the laws of accepted numbers, of flexing's table and of breaking. Assumes nothing.
 use mathlib.Core.Path.{_≡_, refl, sym, ap, _∙_, subst}
-use mathlib.Core.Bool.{Bool, true, false, cond}
+use mathlib.Core.Bool.{Bool, true}
 use mathlib.Core.List.{List}
 use Prim.Native.Nat.{ℕ, zero, suc, _+_, _*_, _≤_}
 use native.Mathlib.Nat.{le-trans, le-of-eq}
 use native.Mathlib.Omega.{arith}
-use lib.Dec.{eqb, ltb}
+use lib.Dec.{eqb}
 use lib.ListN.{length}
 use lib.Ieee.{Float}
-use borrow.Author.Tests.{ltb-false}
 use Rattle.grid.specs.Grid.{Length, sixtyFourths, cleaned}
 use Rattle.grid.proofs.Meaning.{at-of-grid, grid-of-at}
 use Rattle.grid.proofs.Cleaned.{cleaned-at}
@@ -20,23 +19,22 @@ use Rattle.refusal.specs.declared.Verdict.{Verdict}
 use Rattle.refusal.specs.declared.Verdict.the-variants.{Passed}
 use Rattle.refusal.specs.declared.Verdict.the-variants as verdict
 use Rattle.refusal.specs.declared.Kind.the-variants as kind
-use Rattle.refusal.proofs.Checks.{judged-checked, accepted, then-passed, shape-passed, fine-append, fine-length, fine-size, fine-code}
+use Rattle.refusal.proofs.Checks.{judged-checked, accepted, then-passed, shape-passed, fine-append, fine-length, fine-size}
 use Rattle.breaking.specs.Steps.{LengthLimit}
 use Rattle.flexing.specs.Flex.{outerSum}
 use Rattle.itemtable.specs.Table.{Wide, itemsIn, Tabled, Held}
 use Rattle.itemtable.proofs.Columns.{tabled-of}
 use Rattle.flexchecks.specs.Input.{inputOf}
 use Rattle.flexchecks.proofs.Accept.{inner-length, gap-length, measured-of, refused-then, passed-then}
-use Rattle.wrapping.specs.declared.Mode.the-variants.{Single, Greedy, Balanced}
 use Rattle.balance.specs.Calls as balance
 use Rattle.wrapping.specs.Wrapping as wrapping
 use Rattle.wrapping.proofs.Given.{table-breakable}
-use Rattle.crosschecks.specs.Numbers.{boundNumbers, crossNumbers}
-use Rattle.crosschecks.specs.declared.numbers.CrossNumbers.{CrossNumbers}
+use Rattle.linesize.specs.declared.container.Wrap.{Wrap}
+use Rattle.linesize.specs.declared.container.Wrap.the-variants as wrap
 use Rattle.container.specs.declared.Container.{Container}
 use Rattle.container.specs.Columns.{column, mainLists}
 use Rattle.breaklimit.specs.Limit.{spaceOf}
-use Rattle.container.specs.Container.{limitSpace, balances, crossNumbersOf}
+use Rattle.container.specs.Container.{limitSpace, wrapMode, balances}
 use Rattle.container.specs.Stages.{Listed}
 use Rattle.passchecks.specs.Checks.{containerNumbers, passInput, passSum, passVerdict}
 use Rattle.passchecks.proofs.Taken.{number-length}
@@ -55,30 +53,14 @@ limit-length zero x f = fine-length (f .0)
 limit-length (suc zero) x f = tt
 limit-length (suc (suc k)) x f = tt
 
-wrap-code : (c : CrossNumbers) → AllFine (crossNumbers c) → c .wrap ≤ 4
-wrap-code c f =
-    let a = fine-append (boundNumbers (c .«has_inner») (c .inner)) _ f in
-    let b = fine-append (boundNumbers (c .«has_minimum») (c .minimum)) _ (a .1) in
-    let d = fine-append (boundNumbers (c .«has_maximum») (c .maximum)) _ (b .1) in
-    fine-code (d .1 .1 .0)
-
 -- ---- room for the lines
 
-balanced-code : (wrap : ℕ) → 3 ≤ wrap → wrap ≤ 4 → balances wrap ≡ true
-balanced-code zero h l = absurd (omega arith)
-balanced-code (suc zero) h l = absurd (omega arith)
-balanced-code (suc (suc zero)) h l = absurd (omega arith)
-balanced-code (suc (suc (suc zero))) h l = refl
-balanced-code (suc (suc (suc (suc zero)))) h l = refl
-balanced-code (suc (suc (suc (suc (suc k))))) h l = absurd (omega arith)
-
-room-of : (wrap n : ℕ) (b : balance.Lent) → wrap ≤ 4 → n ≤ length (b .counts) → (balances wrap ≡ true → (n * n + 3 * n ≤ length (b .work)) × (3 * n ≤ length (b .sums))) → wrapping.Room (modeOf wrap) n b
-room-of wrap n b l h w = go (eqb wrap 0) (ltb wrap 3) refl
-  where
-    go : (p q : Bool) → ltb wrap 3 ≡ q → wrapping.Room (cond p Single (cond q Greedy Balanced)) n b
-    go true q e = h
-    go false true e = h
-    go false false e = let r = w (balanced-code wrap (ltb-false wrap 3 e) l) in (h, r .0, r .1)
+room-of : (w : Wrap) (n : ℕ) (b : balance.Lent) → n ≤ length (b .counts) → (balances w ≡ true → (n * n + 3 * n ≤ length (b .work)) × (3 * n ≤ length (b .sums))) → wrapping.Room (modeOf w) n b
+room-of wrap.NoWrap n b h work = h
+room-of wrap.Wrap n b h work = h
+room-of wrap.WrapReverse n b h work = h
+room-of wrap.Balance n b h work = (h, work refl .0, work refl .1)
+room-of wrap.BalanceReverse n b h work = (h, work refl .0, work refl .1)
 
 -- "-0.0 reads as 0"
 clean-size : (x : Float) → Length x → sixtyFourths (cleaned x) ≡ sixtyFourths x
@@ -112,8 +94,8 @@ wide-of t n h few = (few, omega (arith, h))
 -- ---- all of it
 
 module _ {c : Container} {n : ℕ} {x : List Float} {codes : List ℕ} {b : Lent} (k : Checked c n x codes b) where
-  abbrev given : Roomy n (c .wrap) (length x) (length codes) (length (b .placed)) (length (b .lines)) (length (b .counts)) (length (b .rounds)) (length (b .free)) (length (b .work)) (length (b .sums))
-  given = roomy-of n (c .wrap) (length x) (length codes) (length (b .placed)) (length (b .lines)) (length (b .counts)) (length (b .rounds)) (length (b .free)) (length (b .work)) (length (b .sums)) (k .room)
+  abbrev given : Roomy n (wrapMode c) (length x) (length codes) (length (b .placed)) (length (b .lines)) (length (b .counts)) (length (b .rounds)) (length (b .free)) (length (b .work)) (length (b .sums))
+  given = roomy-of n (wrapMode c) (length x) (length codes) (length (b .placed)) (length (b .lines)) (length (b .counts)) (length (b .rounds)) (length (b .free)) (length (b .work)) (length (b .sums)) (k .room)
 
   pub listed-of : Listed n x codes
   listed-of = record { few = given .few; numbers-long = given .numbers-long; codes-long = given .codes-long }
@@ -132,8 +114,8 @@ module _ {c : Container} {n : ℕ} {x : List Float} {codes : List ℕ} {b : Lent
   own : AllFine (containerNumbers c)
   own = fine-append (inputOf (c .«inner_main») (c .«gap_main») (mainLists n x codes) .container) (containerNumbers c) (k .sound .container) .1
 
-  limit-and-cross : AllFine (optional (eqb (c .«limit_kind») 0) (float kind.Length (c .limit))) × AllFine (crossNumbers (crossNumbersOf c))
-  limit-and-cross = fine-append (optional (eqb (c .«limit_kind») 0) (float kind.Length (c .limit))) (crossNumbers (crossNumbersOf c)) (own .1 .1 .1 .1)
+  limit-fine : AllFine (optional (eqb (c .«limit_kind») 0) (float kind.Length (c .limit)))
+  limit-fine = fine-append (optional (eqb (c .«limit_kind») 0) (float kind.Length (c .limit))) _ (own .1 .1 .1 .1) .0
 
   pub gap-is : Length (cleaned (c .«gap_main»))
   gap-is = gap-length (c .«inner_main») (c .«gap_main») (mainLists n x codes) sound-main
@@ -154,8 +136,8 @@ module _ {c : Container} {n : ℕ} {x : List Float} {codes : List ℕ} {b : Lent
             gap-is = gap-is;
             breaks = record {
               wide = wide;
-              breakable = table-breakable t n (cleaned (c .«gap_main»)) table-is w (limitSpace c) (given .few) (limit-length (c .«limit_kind») (c .limit) (limit-and-cross .0)) gap-is (g .1 .0, clean-size (c .«gap_main») (g .0) ∙ g .1 .1);
-              room = room-of (c .wrap) n (balance.lent (b .counts) (b .work) (b .sums)) (wrap-code (crossNumbersOf c) (limit-and-cross .1)) (given .counts-room) (given .work-room);
+              breakable = table-breakable t n (cleaned (c .«gap_main»)) table-is w (limitSpace c) (given .few) (limit-length (c .«limit_kind») (c .limit) limit-fine) gap-is (g .1 .0, clean-size (c .«gap_main») (g .0) ∙ g .1 .1);
+              room = room-of (wrapMode c) n (balance.lent (b .counts) (b .work) (b .sums)) (given .counts-room) (given .work-room);
             };
             within = w;
             placed-room = given .placed-room;

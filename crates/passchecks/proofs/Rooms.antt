@@ -8,13 +8,14 @@ use borrow.Author.Tests.{leb-true, eqb-true}
 use Rattle.refusal.specs.Domain.{shape}
 use Rattle.refusal.specs.declared.Verdict.the-variants.{Passed}
 use Rattle.refusal.proofs.Checks.{shape-passed}
+use Rattle.linesize.specs.declared.container.Wrap.{Wrap}
 use Rattle.container.specs.Container.{balances}
 use Rattle.passchecks.specs.Checks.{workRoom, passRoom}
 
 pub square : (n : ℕ) → n ≤ 1024 → n * n ≤ 1048576
 square n h = mul-le-mul {n₁ = n} {m₁ = n} {n₂ = 1024} {m₂ = 1024} h h
 
-module _ (n wrap work sums : ℕ) where
+module _ (n : ℕ) (wrap : Wrap) (work sums : ℕ) where
   pub work-needed : {b r : Bool} → b ≡ balances wrap → b ≡ true → r ≡ (leb (n * n + 3 * n) work && leb (3 * n) sums) → r ≡ workRoom n wrap work sums
   unfolding workRoom
   work-needed p q e = e ∙ sym (ap (λ (t : Bool). cond t (leb (n * n + 3 * n) work && leb (3 * n) sums) true) (sym p ∙ q))
@@ -23,14 +24,14 @@ module _ (n wrap work sums : ℕ) where
   unfolding workRoom
   no-work-needed p q = sym (ap (λ (t : Bool). cond t (leb (n * n + 3 * n) work && leb (3 * n) sums) true) (sym p ∙ q))
 
-pub room-is : (n wrap numbers codes placed lines counts rounds free work sums : ℕ) {r0 r1 r2 r3 r4 r5 r6 r7 : Bool} → r0 ≡ workRoom n wrap work sums → r1 ≡ (leb n free && r0) → r2 ≡ (leb n rounds && r1) → r3 ≡ (leb n counts && r2) → r4 ≡ (leb (2 * n) lines && r3) → r5 ≡ (leb (8 * n) placed && r4) → r6 ≡ (eqb codes (8 * n) && r5) → r7 ≡ (eqb numbers (14 * n) && r6)
+pub room-is : (n : ℕ) (wrap : Wrap) (numbers codes placed lines counts rounds free work sums : ℕ) {r0 r1 r2 r3 r4 r5 r6 r7 : Bool} → r0 ≡ workRoom n wrap work sums → r1 ≡ (leb n free && r0) → r2 ≡ (leb n rounds && r1) → r3 ≡ (leb n counts && r2) → r4 ≡ (leb (2 * n) lines && r3) → r5 ≡ (leb (8 * n) placed && r4) → r6 ≡ (eqb codes (8 * n) && r5) → r7 ≡ (eqb numbers (14 * n) && r6)
     → r7 ≡ passRoom n wrap numbers codes placed lines counts rounds free work sums
 unfolding passRoom
 room-is n wrap numbers codes placed lines counts rounds free work sums e0 e1 e2 e3 e4 e5 e6 e7 = rw (e7, e6, e5, e4, e3, e2, e1, e0)
 
 -- ---- what checks 1 and 2 show
 
-pub record Roomy (n wrap numbers codes placed lines counts rounds free work sums : ℕ) : Type 0 where
+pub record Roomy (n : ℕ) (wrap : Wrap) (numbers codes placed lines counts rounds free work sums : ℕ) : Type 0 where
   pub few : n ≤ 1024
   pub numbers-long : numbers ≡ 14 * n
   pub codes-long : codes ≡ 8 * n
@@ -45,7 +46,7 @@ both : (a b : Bool) → (a && b) ≡ true → (a ≡ true) × (b ≡ true)
 both true b e = (refl, e)
 both false b e = absurd (false≢true e)
 
-pub roomy-of : (n wrap numbers codes placed lines counts rounds free work sums : ℕ) → shape n (passRoom n wrap numbers codes placed lines counts rounds free work sums) ≡ Passed → Roomy n wrap numbers codes placed lines counts rounds free work sums
+pub roomy-of : (n : ℕ) (wrap : Wrap) (numbers codes placed lines counts rounds free work sums : ℕ) → shape n (passRoom n wrap numbers codes placed lines counts rounds free work sums) ≡ Passed → Roomy n wrap numbers codes placed lines counts rounds free work sums
 unfolding passRoom workRoom
 roomy-of n wrap numbers codes placed lines counts rounds free work sums e =
     let p = shape-passed n (passRoom n wrap numbers codes placed lines counts rounds free work sums) e in

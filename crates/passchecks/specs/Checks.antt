@@ -13,6 +13,7 @@ use Rattle.refusal.specs.declared.Kind.the-variants.{Length}
 use Rattle.flexing.specs.Flex.{outerSum}
 use Rattle.flexing.specs.Items.{itemsOf}
 use Rattle.flexchecks.specs.Input.{inputOf}
+use Rattle.linesize.specs.declared.container.Wrap.{Wrap}
 use Rattle.crosschecks.specs.Numbers.{crossNumbers, acrossNumbersAt}
 use Rattle.container.specs.declared.Container.{Container}
 use Rattle.container.specs.Columns.{mainLists, crossItems, alignSelf, autoSize}
@@ -21,12 +22,12 @@ use Rattle.container.specs.Container.{balances, crossNumbersOf}
 -- ---- checks 1 and 2
 
 -- "balanced breaking also n·n+3n u32 cells and 3n f64 cells"
-unfoldable pub workRoom : ℕ → ℕ → ℕ → ℕ → Bool
+unfoldable pub workRoom : ℕ → Wrap → ℕ → ℕ → Bool
 workRoom n wrap work sums = cond (balances wrap) (leb (n * n + 3 * n) work && leb (3 * n) sums) true
 
 -- of the lengths of all lists: fourteen lists of n numbers and eight of n codes; then "n cells for each answer list", eight by item and two by line in
 -- lists of their own, counts, rounds and free space by line; and the cells to work in
-unfoldable pub passRoom : ℕ → ℕ → ℕ → ℕ → ℕ → ℕ → ℕ → ℕ → ℕ → ℕ → ℕ → Bool
+unfoldable pub passRoom : ℕ → Wrap → ℕ → ℕ → ℕ → ℕ → ℕ → ℕ → ℕ → ℕ → ℕ → Bool
 passRoom n wrap numbers codes placed lines counts rounds free work sums =
     eqb numbers (14 * n) && (eqb codes (8 * n) && (leb (8 * n) placed && (leb (2 * n) lines && (leb n counts && (leb n rounds && (leb n free && workRoom n wrap work sums))))))
 

@@ -7,13 +7,15 @@ ghost use Rattle.refusal.specs.Marks.{leastOf, leastUpTo, leastMark, judged};
 ghost use Rattle.flexchecks.specs.Input.{inputOf};
 ghost use Rattle.crosschecks.specs.Numbers.{acrossNumbersAt};
 ghost use Rattle.container.specs.Columns.{mainLists, crossItems, alignSelf, autoSize};
-ghost use Rattle.container.specs.Container.{balances, crossNumbersOf};
+ghost use Rattle.container.specs.Container.{wrapMode, balances, crossNumbersOf};
 ghost use Rattle.passchecks.specs.Checks.{workRoom, passRoom, containerNumbers, passInput};
 ghost use Rattle.container.specs.Stages.{Listed};
 use container::Container;
 use container::columns::code_column;
 use container::columns::column;
 use crosschecks::numbers::CrossNumbers;
+use linesize::container::Wrap;
+use linesize::container::wrap_of;
 use refusal::Kind;
 use refusal::Mark;
 use refusal::Refusal;
@@ -25,16 +27,19 @@ use single::mark_code;
 use single::mark_given;
 
 // Whether the lines are balanced, and so need cells to work in.
-pub fn is_balanced(wrap: u32) -> bool
+pub fn is_balanced(wrap: Wrap) -> bool
     ensures { λ r. ⌜ r ≡ balances wrap ⌝ }
 {
-    if wrap == 3 {
-        return true;
+    match wrap {
+        Wrap::NoWrap => false,
+        Wrap::Wrap => false,
+        Wrap::WrapReverse => false,
+        Wrap::Balance => true,
+        Wrap::BalanceReverse => true,
     }
-    wrap == 4
 }
 
-fn has_work_room(n: usize, wrap: u32, work: usize, sums: usize) -> bool
+fn has_work_room(n: usize, wrap: Wrap, work: usize, sums: usize) -> bool
     requires { ⌜ n ≤ 1024 ⌝ }
     ensures { λ r. ⌜ r ≡ workRoom n wrap work sums ⌝ }
 {
@@ -47,7 +52,7 @@ fn has_work_room(n: usize, wrap: u32, work: usize, sums: usize) -> bool
 // Checks 1 and 2, from the lengths of the lists. More than 1,024 items are refused whatever the room, so their square is never taken.
 pub fn check_lists(
     n: usize,
-    wrap: u32,
+    wrap: Wrap,
     numbers: usize,
     codes: usize,
     placed: usize,
@@ -164,11 +169,11 @@ pub fn check_pass<'a>(
     work: usize,
     sums: usize,
 ) -> Verdict
-    ensures { λ r. ⌜ r ≡ then (shape n (passRoom n (c .wrap) (length (now (numbers .entry))) (length (now (codes .entry))) placed lines counts rounds free work sums)) (judged (leastMark (passInput c n (now (numbers .entry)) (now (codes .entry))))) ⌝ }
+    ensures { λ r. ⌜ r ≡ then (shape n (passRoom n (wrapMode c) (length (now (numbers .entry))) (length (now (codes .entry))) placed lines counts rounds free work sums)) (judged (leastMark (passInput c n (now (numbers .entry)) (now (codes .entry))))) ⌝ }
 {
     let v = check_lists(
         n,
-        c.wrap,
+        wrap_of(c.wrap),
         numbers.len(),
         codes.len(),
         placed,

@@ -1,9 +1,7 @@
 -- The lines of a container by its wrap mode (document 01, "Breaking"), in the lists that balanced breaking is lent. Definitions only. Assumes nothing.
 use mathlib.Core.Path.{_≡_}
-use mathlib.Core.Bool.{cond}
 use mathlib.Core.List.{List, [], _∷_}
 use Prim.Native.Nat.{ℕ, zero, suc, _+_, _*_, _≤_}
-use lib.Dec.{eqb, ltb}
 use lib.ListN.{length}
 use lib.Ieee.{Float}
 use Rattle.grid.specs.Grid.{sixtyFourths}
@@ -13,12 +11,18 @@ use Rattle.breaking.specs.Calls.{units, written}
 use Rattle.rule.specs.Rule as rule
 use Rattle.balance.specs.Calls.{Lent, lent, worked}
 use Rattle.balance.specs.Parts.{Roomy}
+use Rattle.linesize.specs.declared.container.Wrap.{Wrap}
+use Rattle.linesize.specs.declared.container.Wrap.the-variants as wrap
 use Rattle.wrapping.specs.declared.Mode.{Mode}
 use Rattle.wrapping.specs.declared.Mode.the-variants.{Single, Greedy, Balanced}
 
--- nowrap; wrap and wrap-reverse; balance and balance-reverse
-abbrev pub modeOf : ℕ → Mode
-modeOf wrap = cond (eqb wrap 0) Single (cond (ltb wrap 3) Greedy Balanced)
+-- how a container breaks its lines; reversed wrapping breaks as wrapping does
+abbrev pub modeOf : Wrap → Mode
+modeOf wrap.NoWrap = Single
+modeOf wrap.Wrap = Greedy
+modeOf wrap.WrapReverse = Greedy
+modeOf wrap.Balance = Balanced
+modeOf wrap.BalanceReverse = Balanced
 
 -- "n = 0 gives no lines"; "a single-line container is one line whatever the limit"
 abbrev pub oneLine : ℕ → List ℕ

@@ -1,15 +1,26 @@
 -- Checks 1 and 2, and where they pass the numbers. Assumes nothing.
-use mathlib.Core.Path.{sym, ap, _∙_}
+use mathlib.Core.Path.{_≡_, sym, ap, _∙_, subst}
 use lib.ListN.{length}
 use denote.Ref.{now}
-use Rattle.refusal.specs.Domain.{then}
+use Rattle.refusal.specs.Domain.{shape, then}
 use Rattle.refusal.specs.Marks.{leastMark, judged}
 use Rattle.refusal.specs.declared.Verdict.{Verdict}
-use Rattle.passchecks.specs.Checks.{passInput}
+use Rattle.linesize.specs.declared.container.Wrap.{Wrap}
+use Rattle.container.specs.Container.{wrapMode}
+use Rattle.passchecks.specs.Checks.{passRoom, passInput}
 use Rattle.passchecks.proofs.Rooms.{roomy-of}
 use borrow.Author.Needs.{needs}
 use Rattle.passchecks.proofs.check_pass.Statement.{statement}
 use Rattle.passchecks.proofs.check_pass.Tie as tie
+
+-- checks 1 and 2, by the container's wrap mode
+lists : (s : tie.After-check-lists) → let a = s .before .before .before .before .args in s .check-lists .result ≡ shape (a .n) (passRoom (a .n) (wrapMode (a .c)) (length (now (a .numbers))) (length (now (a .codes))) (a .placed) (a .lines) (a .counts) (a .rounds) (a .free) (a .work) (a .sums))
+lists s =
+    let a = s .before .before .before .before .args in
+    subst (λ (w : Wrap). s .check-lists .result ≡ shape (a .n) (passRoom (a .n) w (length (now (a .numbers))) (length (now (a .codes))) (a .placed) (a .lines) (a .counts) (a .rounds) (a .free) (a .work) (a .sums))) (s .before .wrap-of .ensures) (s .check-lists .ensures)
+
+wrap-of-requires : tie.Need-wrap-of-requires
+wrap-of-requires c κs = search needs
 
 check-lists-requires : tie.Need-check-lists-requires
 check-lists-requires c κs = search needs
@@ -22,21 +33,21 @@ enum-told c = search needs
 
 check-numbers-requires : tie.Need-check-numbers-requires
 check-numbers-requires c κs =
-    let a = c .before .before .before .before .before .args in
-    let r = roomy-of (a .n) (a .c .wrap) (length (now (a .numbers))) (length (now (a .codes))) (a .placed) (a .lines) (a .counts) (a .rounds) (a .free) (a .work) (a .sums) (sym (c .before .before .check-lists .ensures) ∙ c .enum-told .given .1) in
+    let a = c .before .before .before .before .before .before .args in
+    let r = roomy-of (a .n) (wrapMode (a .c)) (length (now (a .numbers))) (length (now (a .codes))) (a .placed) (a .lines) (a .counts) (a .rounds) (a .free) (a .work) (a .sums) (sym (lists (c .before .before)) ∙ c .enum-told .given .1) in
     record { few = r .few; numbers-long = r .numbers-long; codes-long = r .codes-long }
 
 returns : tie.Need-returns
 returns c =
-    let a = c .before .before .before .before .before .before .args in
-    sym (ap (λ (v : Verdict). then v (judged (leastMark (passInput (a .c) (a .n) (now (a .numbers)) (now (a .codes)))))) (sym (c .before .before .before .check-lists .ensures) ∙ c .before .v .given .1))
+    let a = c .before .before .before .before .before .before .before .args in
+    sym (ap (λ (v : Verdict). then v (judged (leastMark (passInput (a .c) (a .n) (now (a .numbers)) (now (a .codes)))))) (sym (lists (c .before .before .before)) ∙ c .before .v .given .1))
 
 returns-2 : tie.Need-returns-2
 returns-2 c =
-    let a = c .before .before .before .before .before .before .args in
-    c .check-numbers .ensures ∙ sym (ap (λ (v : Verdict). then v (judged (leastMark (passInput (a .c) (a .n) (now (a .numbers)) (now (a .codes)))))) (sym (c .before .before .before .check-lists .ensures) ∙ c .before .enum-told .given .1))
+    let a = c .before .before .before .before .before .before .before .args in
+    c .check-numbers .ensures ∙ sym (ap (λ (v : Verdict). then v (judged (leastMark (passInput (a .c) (a .n) (now (a .numbers)) (now (a .codes)))))) (sym (lists (c .before .before .before)) ∙ c .before .enum-told .given .1))
 
 pub check-pass-spec : {M : Type 1} → statement M
 check-pass-spec =
     tie.close
-    (tie.spec check-lists-requires enum-known-v enum-told check-numbers-requires returns returns-2)
+    (tie.spec wrap-of-requires check-lists-requires enum-known-v enum-told check-numbers-requires returns returns-2)
