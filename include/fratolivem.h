@@ -316,7 +316,7 @@ enum { FRATOLIVEM_LINE_SIZE = 0, FRATOLIVEM_LINE_OFFSET = 1, FRATOLIVEM_LINE_LIS
  * flexing, and free space before flexing in whole sixty-fourths, negative where the line is overfull. Cells by line are 0 past the last line.
  * BALANCE and BALANCE_REVERSE also ask for n*n + 3n cells of work and 3n of sums (fratolivem_work_cells, fratolivem_sum_cells), which are 0
  * after acceptance; else these two may be NULL and are not touched. All other cells are unchanged. It takes 163,840 bytes of
- * stack (give its thread 256 KB; the calls that flex take 40,960). Ranges and the sum of refusal 6 are those of fratolivem_flex_line. */
+ * stack (give its thread 256 KB; the calls that flex take 40,960, balanced breaking 36,864). Ranges and the sum of refusal 6 are those of fratolivem_flex_line. */
 fratolivem_passed fratolivem_pass(fratolivem_container container, const fratolivem_item *items, size_t n, float *placed,
                                   size_t placed_len, float *lines, size_t lines_len, uint32_t *counts, size_t counts_len,
                                   uint32_t *rounds, size_t rounds_len, int32_t *free, size_t free_len, uint32_t *work,

@@ -114,10 +114,10 @@ void damaged() {
             }
 }
 
-// Each lent list short by one cell, or longer; 0 to 1,090 items.
+// Each lent list short by one cell, or longer; 0 to 1,090 items; under a code that names no wrap mode no work cells are asked for.
 void lengths() {
     for (std::size_t n : {0, 1, 2, 64, 1023, 1024, 1025, 1090})
-        for (uint32_t wrap : {0u, 2u, 4u})
+        for (uint32_t wrap : {0u, 2u, 4u, 5u})
             for (int which = 0; which < 15; which++) {
                 PassRoom r = PassRoom::named(n);
                 std::size_t *const rooms[] = {&r.placed, &r.lines, &r.counts, &r.rounds, &r.free, &r.work, &r.sums};
