@@ -6,14 +6,14 @@ use Rattle.refusal.specs.Domain.{Number}
 use Rattle.refusal.specs.Marks.{leastOf}
 use Rattle.refusal.proofs.Checks.{least-append}
 use Rattle.crosschecks.specs.declared.numbers.CrossNumbers.{CrossNumbers}
-use Rattle.crosschecks.specs.Numbers.{boundNumbers, boundsNumbers}
+use Rattle.crosschecks.specs.Numbers.{codedBound, boundsNumbers}
 
-pub bounds-marks : (c : CrossNumbers) (rest : List Number) {a b d p x y r : ℕ} → a ≡ leastOf (boundNumbers (c .«has_inner») (c .inner)) 0 → b ≡ leastOf (boundNumbers (c .«has_minimum») (c .minimum)) 0
-    → d ≡ leastOf (boundNumbers (c .«has_maximum») (c .maximum)) 0 → p ≡ leastOf rest 0 → x ≡ min d p → y ≡ min b x → r ≡ min a y → r ≡ leastOf (boundsNumbers c rest) 0
+pub bounds-marks : (c : CrossNumbers) (rest : List Number) {a b d p x y r : ℕ} → a ≡ leastOf (codedBound (c .«has_inner») (c .inner)) 0 → b ≡ leastOf (codedBound (c .«has_minimum») (c .minimum)) 0
+    → d ≡ leastOf (codedBound (c .«has_maximum») (c .maximum)) 0 → p ≡ leastOf rest 0 → x ≡ min d p → y ≡ min b x → r ≡ min a y → r ≡ leastOf (boundsNumbers c rest) 0
 bounds-marks c rest pa pb pd pp px py pr =
-    let A = boundNumbers (c .«has_inner») (c .inner) in
-    let B = boundNumbers (c .«has_minimum») (c .minimum) in
-    let D = boundNumbers (c .«has_maximum») (c .maximum) in
+    let A = codedBound (c .«has_inner») (c .inner) in
+    let B = codedBound (c .«has_minimum») (c .minimum) in
+    let D = codedBound (c .«has_maximum») (c .maximum) in
     let qx = px ∙ ap₂ min pd pp ∙ sym (least-append D rest 0) in
     let qy = py ∙ ap₂ min pb qx ∙ sym (least-append B (D ++ rest) 0) in
     pr ∙ ap₂ min pa qy ∙ sym (least-append A (B ++ (D ++ rest)) 0)

@@ -20,12 +20,12 @@ unfoldable pub crossOf : CrossNumbers → Cross
 crossOf c = record { inner = boundOf (c .«has_inner») (c .inner); minimum = boundOf (c .«has_minimum») (c .minimum); maximum = boundOf (c .«has_maximum») (c .maximum); gap = c .gap; wrap = wrapOf (c .wrap) }
 
 -- the code, and the number where it is given
-abbrev pub boundNumbers : ℕ → Float → List Number
-boundNumbers given x = code 1 given ∷ optional (eqb given 1) (float Size x)
+abbrev pub codedBound : ℕ → Float → List Number
+codedBound given x = code 1 given ∷ optional (eqb given 1) (float Size x)
 
 -- the inner size, its bounds, and the rest
 abbrev pub boundsNumbers : CrossNumbers → List Number → List Number
-boundsNumbers c rest = boundNumbers (c .«has_inner») (c .inner) ++ (boundNumbers (c .«has_minimum») (c .minimum) ++ (boundNumbers (c .«has_maximum») (c .maximum) ++ rest))
+boundsNumbers c rest = codedBound (c .«has_inner») (c .inner) ++ (codedBound (c .«has_minimum») (c .minimum) ++ (codedBound (c .«has_maximum») (c .maximum) ++ rest))
 
 -- what lines along the cross axis turn on
 abbrev pub crossNumbers : CrossNumbers → List Number

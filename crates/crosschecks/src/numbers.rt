@@ -3,7 +3,7 @@ ghost use mathlib.Core.Path.{_≡_};
 ghost use mathlib.Core.List.{List};
 ghost use Rattle.refusal.specs.Domain.{Number};
 ghost use Rattle.refusal.specs.Marks.{leastOf};
-ghost use Rattle.crosschecks.specs.Numbers.{crossOf, boundNumbers, boundsNumbers, crossNumbers, sizingNumbers};
+ghost use Rattle.crosschecks.specs.Numbers.{crossOf, codedBound, boundsNumbers, crossNumbers, sizingNumbers};
 use breaklimit::bound_of;
 use linesize::container;
 use linesize::container::Cross;
@@ -39,7 +39,7 @@ pub fn cross_of(c: CrossNumbers) -> Cross
 }
 
 fn mark_bound(given: u32, x: f32) -> Mark
-    ensures { λ r. ⌜ r .0 ≡ leastOf (boundNumbers given x) 0 ⌝ }
+    ensures { λ r. ⌜ r .0 ≡ leastOf (codedBound given x) 0 ⌝ }
 {
     least(
         mark_code(1, given, 0),

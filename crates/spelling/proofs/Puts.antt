@@ -13,7 +13,8 @@ use borrow.Author.Tests.{lt-ltb, le-ltb}
 use Rattle.refusal.specs.Domain.{whereOf}
 use Rattle.refusal.specs.declared.Place.{Place}
 use Rattle.refusal.specs.declared.Place.the-variants.{Container, At}
-use Rattle.spelling.specs.Text.{Put, decimalTo, decimal, spaced, placeText, titleText, counts-word}
+use Rattle.spelling.specs.Text.{Put, decimalTo, decimal, spaced, placeText, replyPaper, titleText, counts-word}
+use Rattle.spelling.specs.declared.Reply.the-variants.{Lines}
 
 pub put-none : {before : List ℕ} {at : ℕ} → Put [] before before at at
 put-none {before} {at} = record { past = sym (add-zero at); front = sym (append-nil (take at before)); as-long = refl }
@@ -127,7 +128,7 @@ spaced-short (suc n) [] = omega arith
 spaced-short (suc n) (m ∷ l) =
     omega (arith, length-append (32 ∷ decimal m) (spaced (take n l)), places 20 m, spaced-short n l)
 
-pub title-short : (n : ℕ) → length (titleText n) ≤ 42
+pub title-short : (n : ℕ) → length (titleText (replyPaper (Lines n))) ≤ 42
 title-short n = omega (arith, length-append (decimal n) (10 ∷ counts-word), places 20 n)
 
 -- text that was put at the front is within the list

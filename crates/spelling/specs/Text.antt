@@ -51,11 +51,11 @@ abbrev pub refusalText : Paper → List ℕ
 refusalText p = headText (p .number) ++ (placeText (p .place) ++ (10 ∷ []))
 
 -- the three lines of an accepted capture: "With no items the last line is `counts` alone."
-abbrev pub titleText : ℕ → List ℕ
-titleText lines = (answer-word ++ (48 ∷ 10 ∷ lines-word)) ++ (decimal lines ++ (10 ∷ counts-word))
+abbrev pub titleText : Paper → List ℕ
+titleText p = (answer-word ++ ((48 + p .number) ∷ 10 ∷ lines-word)) ++ (decimal (p .lines) ++ (10 ∷ counts-word))
 
-abbrev pub linesText : ℕ → List ℕ → List ℕ
-linesText lines counts = titleText lines ++ (spaced (take lines counts) ++ (10 ∷ []))
+abbrev pub linesText : Paper → List ℕ → List ℕ
+linesText p counts = titleText p ++ (spaced (take (p .lines) counts) ++ (10 ∷ []))
 
 -- the paper's values: the place of answer 7 is a byte offset
 abbrev pub replyPaper : Reply → Paper
@@ -64,7 +64,7 @@ replyPaper (Refused why) = refusalOf why
 replyPaper (Broken offset) = refusedAs 7 (at-item offset)
 
 abbrev pub textOf : Reply → List ℕ → List ℕ
-textOf (Lines k) counts = linesText k counts
+textOf (Lines k) counts = linesText (replyPaper (Lines k)) counts
 textOf (Refused why) counts = refusalText (replyPaper (Refused why))
 textOf (Broken offset) counts = refusalText (replyPaper (Broken offset))
 

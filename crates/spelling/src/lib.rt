@@ -4,6 +4,7 @@ ghost use Prim.Native.Nat.{_+_, _*_, _≤_, _<_};
 ghost use lib.ListN.{length, take};
 ghost use Rattle.spelling.specs.Text.{Put, decimalTo, decimal, spaced, placeText, headText, refusalText, replyPaper, titleText, linesText, textOf};
 ghost use Rattle.refusal.specs.Domain.{whereOf, refusalOf};
+ghost use Rattle.spelling.specs.declared.Reply.the-variants.{Lines};
 use refusal::Place;
 use refusal::Refusal;
 
@@ -120,7 +121,7 @@ fn put_broken(offset: u64, out: &mut [u8]) -> usize
 // Two lines, and the first word of the third.
 fn put_title(lines: u32, out: &mut [u8]) -> usize
     requires { ⌜ 42 ≤ length (now out) ⌝ }
-    ensures { λ r. ⌜ Put (titleText lines) (now (out .entry)) (now (out .exit)) 0 r ⌝ }
+    ensures { λ r. ⌜ Put (titleText (replyPaper (Lines lines))) (now (out .entry)) (now (out .exit)) 0 r ⌝ }
 {
     let a = put(b"answer 0\nlines ", out, 0);
     let b = put_number(lines as u64, out, a);
@@ -141,7 +142,7 @@ fn put_first(n: usize, counts: &[u32], out: &mut [u8], at: usize) -> usize
 
 fn put_lines(lines: u32, counts: &[u32], out: &mut [u8]) -> usize
     requires { ⌜ 43 + 21 * length (now counts) ≤ length (now out) ⌝ }
-    ensures { λ r. ⌜ Put (linesText lines (now (counts .entry))) (now (out .entry)) (now (out .exit)) 0 r ⌝ }
+    ensures { λ r. ⌜ Put (linesText (replyPaper (Lines lines)) (now (counts .entry))) (now (out .entry)) (now (out .exit)) 0 r ⌝ }
 {
     let a = put_title(lines, out);
     let b = put_first(lines as usize, counts, out, a);

@@ -4,6 +4,6 @@ use lib.Ieee.{Float}
 use Rattle.flexing.specs.declared.Item.{Item}
 use Rattle.flexing.specs.Flex.{outer, hypothetical}
 
--- the items' hypothetical outer main sizes, in pixels
+-- the items' hypothetical outer main sizes, in pixels; of accepted items they are `outerUnits` of 9.7 in sixty-fourths, by `table-units`
 abbrev pub outerSizes : List Item → List Float
 outerSizes items = map (λ it. outer it (hypothetical it)) items
