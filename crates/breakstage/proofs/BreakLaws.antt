@@ -14,7 +14,8 @@ use Rattle.balance.specs.Calls.{Lent}
 use Rattle.wrapping.specs.declared.Mode.{Mode}
 use Rattle.wrapping.specs.declared.Mode.the-variants.{Single, Greedy, Balanced}
 use Rattle.wrapping.specs.Wrapping as wrapping
-use Rattle.wrapping.specs.Wrapping.{modeOf, Room, Wrapped}
+use Rattle.wrapping.specs.Wrapping.{modeOf, Wrapped}
+use Rattle.wrapping.specs.Parts.{Room}
 use Rattle.wrapping.specs.Outer.{outerSizes}
 use Rattle.wrapping.proofs.Given.{sizes-long}
 use Rattle.wrapping.proofs.Division.{Divides, lines-divide, read-back}

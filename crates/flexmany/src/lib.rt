@@ -1,5 +1,4 @@
 // The call that flexes many lines, on any bits: checks 1 to 6, and then each line flexed by its own items (document 01, "Flexible lengths").
-ghost use mathlib.Core.Path.{_≡_};
 ghost use Prim.Native.Nat.{_*_, _≤_};
 ghost use lib.ListN.{length};
 ghost use Rattle.grid.specs.Grid.{cleaned};

@@ -27,7 +27,7 @@ use Rattle.itemtable.proofs.Columns.{tabled-of}
 use Rattle.flexchecks.specs.Input.{inputOf}
 use Rattle.flexchecks.proofs.Accept.{inner-length, gap-length, measured-of, refused-then, passed-then}
 use Rattle.balance.specs.Calls as balance
-use Rattle.wrapping.specs.Wrapping as wrapping
+use Rattle.wrapping.specs.Parts.{Room}
 use Rattle.wrapping.proofs.Given.{table-breakable}
 use Rattle.linesize.specs.declared.container.Wrap.{Wrap}
 use Rattle.linesize.specs.declared.container.Wrap.the-variants as wrap
@@ -55,7 +55,7 @@ limit-length (suc (suc k)) x f = tt
 
 -- ---- room for the lines
 
-room-of : (w : Wrap) (n : ℕ) (b : balance.Lent) → n ≤ length (b .counts) → (balances w ≡ true → (n * n + 3 * n ≤ length (b .work)) × (3 * n ≤ length (b .sums))) → wrapping.Room (modeOf w) n b
+room-of : (w : Wrap) (n : ℕ) (b : balance.Lent) → n ≤ length (b .counts) → (balances w ≡ true → (n * n + 3 * n ≤ length (b .work)) × (3 * n ≤ length (b .sums))) → Room (modeOf w) n b
 room-of wrap.NoWrap n b h work = h
 room-of wrap.Wrap n b h work = h
 room-of wrap.WrapReverse n b h work = h

@@ -1,13 +1,12 @@
 -- The cells of the parts, on plain values: one line, and the outer sizes so far. Assumes nothing.
-use mathlib.Core.Path.{_≡_, refl, sym, ap, ap₂, _∙_}
+use mathlib.Core.Path.{_≡_, refl, sym, ap, _∙_}
 use mathlib.Core.List.{List, [], _∷_, _++_, append-assoc}
 use Prim.Native.Nat.{ℕ, zero, suc, _+_, _-_, _≤_, _<_}
-use native.Mathlib.Nat.{add-sub-of-le}
 use native.Mathlib.Numerals.{add-one}
 use native.Mathlib.Omega.{arith}
-use lib.ListN.{length, getD, set, drop, replicate, length-replicate, replicate-append-replicate}
-use lib.Seq.{drop-cons, drop-drop, set-at, take-at, drop-append-add}
-use Rattle.breaking.specs.Steps.{Listed, filled, cleared}
+use lib.ListN.{length, getD, set, drop}
+use lib.Seq.{drop-cons, set-at}
+use Rattle.breaking.specs.Steps.{Listed, cleared}
 use Rattle.grid.specs.Floats.{each}
 use Rattle.itemtable.proofs.Each.{length-each}
 use Rattle.wrapping.specs.Wrapping.{oneLine}

@@ -1,10 +1,7 @@
 -- Breaking by wrap mode, on plain values: what a mode's part asks is what the call asks, and what it gives is what the call gives. Assumes nothing.
-use mathlib.Core.Path.{_≡_, refl, sym, ap, _∙_, subst}
-use mathlib.Core.Bool.{Bool, true, _&&_}
+use mathlib.Core.Path.{_≡_, refl, ap, subst}
 use mathlib.Core.List.{List}
-use Prim.Native.Nat.{ℕ, _+_, _*_, _≤_}
-use native.Mathlib.Omega.{arith}
-use lib.Dec.{T, leb, le→leb}
+use Prim.Native.Nat.{ℕ, _≤_}
 use lib.ListN.{length}
 use lib.Ieee.{Float}
 use Rattle.grid.specs.Grid.{sixtyFourths}
@@ -16,7 +13,8 @@ use Rattle.balance.specs.Calls.{Lent, lent, Divides}
 use Rattle.balance.specs.Parts.{Roomy}
 use Rattle.wrapping.specs.declared.Mode.{Mode}
 use Rattle.wrapping.specs.declared.Mode.the-variants.{Single, Greedy, Balanced}
-use Rattle.wrapping.specs.Wrapping.{oneLine, Room, Wrapped}
+use Rattle.wrapping.specs.Wrapping.{oneLine, Wrapped}
+use Rattle.wrapping.specs.Parts.{Room}
 
 -- ---- room
 

@@ -1,2 +1,3 @@
 pub mod Wrapping
 pub mod Outer
+pub mod Parts

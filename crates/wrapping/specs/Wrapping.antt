@@ -1,7 +1,7 @@
 -- The lines of a container by its wrap mode (document 01, "Breaking"), in the lists that balanced breaking is lent. Definitions only. Assumes nothing.
 use mathlib.Core.Path.{_≡_}
 use mathlib.Core.List.{List, [], _∷_}
-use Prim.Native.Nat.{ℕ, zero, suc, _+_, _*_, _≤_}
+use Prim.Native.Nat.{ℕ, zero, suc}
 use lib.ListN.{length}
 use lib.Ieee.{Float}
 use Rattle.grid.specs.Grid.{sixtyFourths}
@@ -10,7 +10,6 @@ use Rattle.breaking.specs.Breaking.{limitOf, greedy}
 use Rattle.breaking.specs.Calls.{units, written}
 use Rattle.rule.specs.Rule as rule
 use Rattle.balance.specs.Calls.{Lent, lent, worked}
-use Rattle.balance.specs.Parts.{Roomy}
 use Rattle.linesize.specs.declared.container.Wrap.{Wrap}
 use Rattle.linesize.specs.declared.container.Wrap.the-variants as wrap
 use Rattle.wrapping.specs.declared.Mode.{Mode}
@@ -34,12 +33,6 @@ abbrev pub Lines : Mode → AvailableSpace → Float → ℕ → List Float → 
 Lines Single limit gap minimum sizes lines = lines ≡ oneLine (length sizes)
 Lines Greedy limit gap minimum sizes lines = lines ≡ greedy (limitOf limit) (sixtyFourths gap) (units sizes)
 Lines Balanced limit gap minimum sizes lines = rule.Balanced (limitOf limit) (sixtyFourths gap) (units sizes) minimum lines
-
--- "Room for n items: n cells for each answer list ..; balanced breaking also n·n+3n u32 cells and 3n f64 cells."
-abbrev pub Room : Mode → ℕ → Lent → Type 0
-Room Single n l = n ≤ length (l .counts)
-Room Greedy n l = n ≤ length (l .counts)
-Room Balanced n l = Roomy n l
 
 -- "After acceptance those work cells are zero, and all cells past the named ones are unchanged."
 abbrev pub listed : Mode → ℕ → List ℕ → Lent → Lent
