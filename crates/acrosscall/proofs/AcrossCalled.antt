@@ -36,8 +36,8 @@ module _ (line : Float) (reversed : ℕ) (ls : Items) (alignment auto-size : Lis
     Shaped v = v ≡ shapeOf (lengths ls alignment auto-size) (length z ∷ length s ∷ length e ∷ length o ∷ []) (count ls)
 
     -- a passed shape: the lists are even, and there is room
-    pub across-sorted : {v : Verdict} → Shaped v → v ≡ Passed → SameLengths ls alignment auto-size × Room (count ls) z s e o
-    across-sorted p h =
+    pub across-lengths : {v : Verdict} → Shaped v → v ≡ Passed → SameLengths ls alignment auto-size × Room (count ls) z s e o
+    across-lengths p h =
         let rest = length (ls .minimum) ∷ length (ls .maximum) ∷ length (ls .capped) ∷ length (ls .edges) ∷ length (ls .start) ∷ length (ls .end) ∷ length (ls .auto-start) ∷ length (ls .auto-end) ∷ length alignment ∷ length auto-size ∷ [] in
         let q = shaped (count ls) rest rooms (sym p ∙ h) in
         let l = q .1 in

@@ -44,7 +44,7 @@ pub enum Resolved {
 }
 
 // Codes 0 to 4; any other reads as the last.
-pub fn position_of(code: u32) -> Position
+fn position_of(code: u32) -> Position
     ensures { λ r. ⌜ r ≡ positionOf code ⌝ }
 {
     match code {
@@ -56,7 +56,7 @@ pub fn position_of(code: u32) -> Position
     }
 }
 
-pub fn distribution_of(code: u32) -> Distribution
+fn distribution_of(code: u32) -> Distribution
     ensures { λ r. ⌜ r ≡ distributionOf code ⌝ }
 {
     match code {
@@ -146,7 +146,7 @@ pub fn apply_alignment_fallback(free: f32, n: usize, alignment: ContentAlignment
 }
 
 // A position's offset. A reversed axis exchanges flex-start and flex-end.
-pub fn position_offset(free: f32, reversed: bool, p: Position) -> f32
+fn position_offset(free: f32, reversed: bool, p: Position) -> f32
     ensures { λ r. ⌜ r ≡ positioned free reversed p ⌝ }
 {
     match p {

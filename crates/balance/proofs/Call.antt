@@ -4,7 +4,6 @@ use mathlib.Core.Bool.{Bool, true, false, true≢false, _&&_}
 use mathlib.Core.Logic.{_⊎_, inl, inr}
 use mathlib.Core.List.{List, [], _∷_, _++_, map, append-assoc}
 use Prim.Native.Nat.{ℕ, _+_, _-_, _*_, _≤_, _<_, zero-le}
-use native.Mathlib.Nat.{mul-le-mul}
 use native.Mathlib.Omega.{arith}
 use borrow.Author.Tests.{lt-ltb}
 use lib.Dec.{T, leb, leb→le}
@@ -59,9 +58,6 @@ search-room n most l h q f g r p c =
       prev = omega arith;
       cur = omega arith;
     }
-
-pub square-small : (n : ℕ) → n ≤ 1024 → n * n ≤ 1048576
-square-small n h = mul-le-mul {n₁ = n} {m₁ = n} {n₂ = 1024} {m₂ = 1024} h h
 
 -- ---- the cells
 module _ (limit : AvailableSpace) (gap : Float) (minimum : ℕ) (sizes : List Float) where

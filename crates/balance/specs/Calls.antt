@@ -7,6 +7,7 @@ use lib.Dec.{leb}
 use lib.ListN.{length, drop, replicate}
 use lib.Ieee.{Float, binary64, ofBits}
 use Rattle.grid.specs.Grid.{sixtyFourths}
+use Rattle.refusal.specs.Shapes.{workRoom}
 use Rattle.refusal.specs.declared.Refusal.{Refusal}
 use Rattle.refusal.specs.declared.Verdict.{Verdict}
 use Rattle.refusal.specs.declared.Verdict.the-variants.{Passed}
@@ -30,7 +31,7 @@ lent counts work sums = record { counts = counts; work = work; sums = sums }
 
 -- "Room for n items: n cells for each answer list ..; balanced breaking also n·n+3n u32 cells and 3n f64 cells."
 abbrev pub roomFor : ℕ → ℕ → ℕ → ℕ → Bool
-roomFor n counts work sums = leb n counts && (leb (n * n + 3 * n) work && leb (3 * n) sums)
+roomFor n counts work sums = leb n counts && workRoom n work sums
 
 abbrev pub hasRoom : ℕ → Lent → Bool
 hasRoom n l = roomFor n (length (l .counts)) (length (l .work)) (length (l .sums))

@@ -13,6 +13,7 @@ use division::divide;
 use refusal::Answer;
 use refusal::Verdict;
 use refusal::no_mark;
+use refusal::shapes::has_work_room;
 
 // The search in lists that may have more cells than it takes: the first n of each are lent, and n * n of opts.
 fn divide_within(
@@ -178,10 +179,7 @@ pub fn has_room(n: usize, counts: usize, work: usize, sums: usize) -> bool
     if counts < n {
         return false;
     }
-    if work < n * n + 3 * n {
-        return false;
-    }
-    3 * n <= sums
+    has_work_room(n, work, sums)
 }
 
 // Balanced breaking of any bits.

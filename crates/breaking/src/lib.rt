@@ -18,7 +18,7 @@ use refusal::Mark;
 use refusal::Verdict;
 
 // Whether a line of several items, of this size, fits: greedy breaking asks it once the limit has passed the checks. No entry point.
-pub fn line_fits(limit: AvailableSpace, size: f32) -> bool
+fn line_fits(limit: AvailableSpace, size: f32) -> bool
     requires { ⌜ LengthLimit limit ⌝ }
     ensures { λ r. ⌜ ((z : ℤ) → At 64 size z → r ≡ fits (limitOf limit) z) ⌝ }
 {

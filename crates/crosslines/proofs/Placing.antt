@@ -34,8 +34,8 @@ pub record Turn (ls : Items) (alignment auto-size : List ℕ) (sizes starts ends
 
 -- the stage's own requirements
 module _ {ls : Items} {alignment auto-size : List ℕ} {sizes starts ends offsets : List Float} {from to : ℕ} (t : Turn ls alignment auto-size sizes starts ends offsets from to) where
-  pub lent-sorted : SameLengths (lentItems from to ls) (midOf from (to - from) alignment) (midOf from (to - from) auto-size)
-  lent-sorted =
+  pub lent-lengths : SameLengths (lentItems from to ls) (midOf from (to - from) alignment) (midOf from (to - from) auto-size)
+  lent-lengths =
       let n = mid-len from to (ls .measured) (t .inside .in-measured) in
       record { even = lent-even (t .inside); alignment-length = mid-len from to alignment (t .in-alignment) ∙ sym n; auto-length = mid-len from to auto-size (t .in-auto-size) ∙ sym n }
 

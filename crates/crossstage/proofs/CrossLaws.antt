@@ -24,7 +24,7 @@ use Rattle.container.specs.declared.Container.{Container}
 use Rattle.container.specs.Columns.{column, crossItems, alignSelf, autoSize, zeros}
 use Rattle.container.specs.Stages.{Inside, Stored, FourStored}
 use Rattle.container.proofs.ColumnLaws.{before}
-use Rattle.passchecks.proofs.Taken.{number-length, sorted-cross}
+use Rattle.passchecks.proofs.Taken.{number-length, lengths-cross}
 use Rattle.crossstage.specs.CrossStage.{Ready, AlignedLines, LinesPlaced, PlacedAcross, ItemsAcross}
 
 -- ---- what is asked
@@ -32,7 +32,7 @@ use Rattle.crossstage.specs.CrossStage.{Ready, AlignedLines, LinesPlaced
 module _ {n : ℕ} {x : List Float} {codes counts : List ℕ} (r : Ready n x codes counts) where
   sizes-ready : (sizes : List Float) → n ≤ length sizes → SizesReady counts (crossItems n x codes) sizes
   sizes-ready sizes h = record {
-    even = sorted-cross (r .listed) .even;
+    even = lengths-cross (r .listed) .even;
     division = r .division ∙ sym (number-length (r .listed) 8 (omega arith));
     room = le-trans {m = n} (r .few) h;
   }
@@ -44,7 +44,7 @@ module _ {n : ℕ} {x : List Float} {codes counts : List ℕ} (r : Ready n x cod
   across-ready lines sizes starts ends offsets h a b d e =
       let l = number-length (r .listed) 8 (omega arith) in
       record {
-        lengths = sorted-cross (r .listed);
+        lengths = lengths-cross (r .listed);
         division = r .division ∙ sym l;
         sized = le-trans {m = n} (r .few) h;
         room = record { sizes-room = le-trans {m = n} (le-of-eq l) a; starts-room = le-trans {m = n} (le-of-eq l) b; ends-room = le-trans {m = n} (le-of-eq l) d; offsets-room = le-trans {m = n} (le-of-eq l) e };

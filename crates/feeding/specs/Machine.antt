@@ -1,5 +1,5 @@
--- What the functions that take a burst at a time cite: a reader, and how it goes on by a byte. `proofs/Resume.antt` says that the records
--- it finds are those of crate format's `Reading.antt`. Assumes nothing.
+-- A reader that takes a burst at a time, and how it goes on by a byte. Only contracts of parts cite it; `said` of proofs/ says that it finds what
+-- the plain reading of crate format finds. Assumes nothing.
 use mathlib.Core.Path.{_≡_}
 use mathlib.Core.Logic.{_⊎_}
 use mathlib.Core.Bool.{cond}

@@ -1,5 +1,5 @@
--- Document 01, "Records for the program", from the writer's side: the bytes of a capture of given numbers. `proofs/Format.antt` says that
--- these are the captures that `reading` accepts, each with its numbers, and no others. Assumes nothing.
+-- Document 01, "Records for the program", from the writer's side: the bytes of a capture of given numbers. Only the theorems `complete` and `sound` of
+-- proofs/Format.antt cite it: these are the captures that `reading` accepts, each with its numbers, and no others. Assumes nothing.
 use mathlib.Core.List.{List, [], _∷_, _++_, map}
 use Prim.Native.Nat.{ℕ, zero, suc, _/_, _%_, _<_, _≤_, _^_}
 use lib.Ieee.{Float, binary32, ofBits}

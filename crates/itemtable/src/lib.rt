@@ -51,7 +51,7 @@ fn read_or(x: f32, given: bool, other: f32) -> f32
 }
 
 // The same of numbers that are there only where their code is `taken`.
-pub fn store_where<'a>(
+fn store_where<'a>(
     xs: &'a [f32],
     codes: &'a [u32],
     taken: u32,

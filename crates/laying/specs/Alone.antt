@@ -8,7 +8,7 @@ use lib.Ieee.{Float}
 use Rattle.flexlines.specs.Lines.{part}
 use Rattle.flexlines.specs.Alone.{SameFlexed}
 use Rattle.container.specs.Columns.{column}
-use Rattle.laying.specs.Laid.{Lent}
+use Rattle.laying.specs.Laid.{Lent, placedMainSize, placedMainOffset, placedMainStart, placedMainEnd}
 
 -- as many items, and in them the same numbers and codes of the main axis: lists 0 to 7 of the numbers, 0 to 2 of the codes
 pub record SameItems (counts counts' : List ℕ) (j j' n n' : ℕ) (x x' : List Float) (codes codes' : List ℕ) : Type 0 where
@@ -18,7 +18,7 @@ pub record SameItems (counts counts' : List ℕ) (j j' n n' : ℕ) (x x' : List 
 
 -- what two runs say of a line: its free space and rounds, and of its items targets, offsets and used margins
 pub record SameLine (counts counts' : List ℕ) (j j' n n' : ℕ) (a a' : Lent) : Type 0 where
-  pub flexed : SameFlexed counts counts' j j' (column n 0 (a .placed)) (column n' 0 (a' .placed)) (a .free) (a' .free) (a .rounds) (a' .rounds)
-  pub offsets : part counts j (column n 1 (a .placed)) ≡ part counts' j' (column n' 1 (a' .placed))
-  pub starts : part counts j (column n 2 (a .placed)) ≡ part counts' j' (column n' 2 (a' .placed))
-  pub ends : part counts j (column n 3 (a .placed)) ≡ part counts' j' (column n' 3 (a' .placed))
+  pub flexed : SameFlexed counts counts' j j' (placedMainSize n a) (placedMainSize n' a') (a .free) (a' .free) (a .rounds) (a' .rounds)
+  pub offsets : part counts j (placedMainOffset n a) ≡ part counts' j' (placedMainOffset n' a')
+  pub starts : part counts j (placedMainStart n a) ≡ part counts' j' (placedMainStart n' a')
+  pub ends : part counts j (placedMainEnd n a) ≡ part counts' j' (placedMainEnd n' a')

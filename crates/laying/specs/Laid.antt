@@ -39,35 +39,35 @@ abbrev pub lent : List Float → List Float → List ℕ → List ℕ → List �
 lent p l k r f w s = record { placed = p; lines = l; counts = k; rounds = r; free = f; work = w; sums = s }
 
 -- those lists, each of n cells
-abbrev pub mainSize : ℕ → Lent → List Float
-mainSize n l = column n 0 (l .placed)
+abbrev pub placedMainSize : ℕ → Lent → List Float
+placedMainSize n l = column n 0 (l .placed)
 
-abbrev pub mainOffset : ℕ → Lent → List Float
-mainOffset n l = column n 1 (l .placed)
+abbrev pub placedMainOffset : ℕ → Lent → List Float
+placedMainOffset n l = column n 1 (l .placed)
 
-abbrev pub mainStart : ℕ → Lent → List Float
-mainStart n l = column n 2 (l .placed)
+abbrev pub placedMainStart : ℕ → Lent → List Float
+placedMainStart n l = column n 2 (l .placed)
 
-abbrev pub mainEnd : ℕ → Lent → List Float
-mainEnd n l = column n 3 (l .placed)
+abbrev pub placedMainEnd : ℕ → Lent → List Float
+placedMainEnd n l = column n 3 (l .placed)
 
-abbrev pub crossSize : ℕ → Lent → List Float
-crossSize n l = column n 4 (l .placed)
+abbrev pub placedCrossSize : ℕ → Lent → List Float
+placedCrossSize n l = column n 4 (l .placed)
 
-abbrev pub crossOffset : ℕ → Lent → List Float
-crossOffset n l = column n 5 (l .placed)
+abbrev pub placedCrossOffset : ℕ → Lent → List Float
+placedCrossOffset n l = column n 5 (l .placed)
 
-abbrev pub crossStart : ℕ → Lent → List Float
-crossStart n l = column n 6 (l .placed)
+abbrev pub placedCrossStart : ℕ → Lent → List Float
+placedCrossStart n l = column n 6 (l .placed)
 
-abbrev pub crossEnd : ℕ → Lent → List Float
-crossEnd n l = column n 7 (l .placed)
+abbrev pub placedCrossEnd : ℕ → Lent → List Float
+placedCrossEnd n l = column n 7 (l .placed)
 
-abbrev pub lineSizes : ℕ → Lent → List Float
-lineSizes n l = column n 0 (l .lines)
+abbrev pub laidLineSize : ℕ → Lent → List Float
+laidLineSize n l = column n 0 (l .lines)
 
-abbrev pub lineOffsets : ℕ → Lent → List Float
-lineOffsets n l = column n 1 (l .lines)
+abbrev pub laidLineOffset : ℕ → Lent → List Float
+laidLineOffset n l = column n 1 (l .lines)
 
 -- ---- an accepted run
 
@@ -76,13 +76,13 @@ pub record Laid (c : Container) (n : ℕ) (x : List Float) (codes : List ℕ) (b
   -- "Breaking", of the hypothetical outer main sizes
   pub broken : wrapping.Wrapped (modeOf (wrapMode c)) (limitSpace c) (cleaned (c .«gap_main»)) (c .«minimum_lines») (outerSizes (itemsOf (mainLists n x codes))) (balance.lent (before .counts) (before .work) (before .sums)) lines (balance.lent (after .counts) (after .work) (after .sums))
   -- "Flexible lengths", of each line
-  pub flexed : FlexedLines (cleaned (c .«inner_main»)) (cleaned (c .«gap_main»)) (itemAt (mainLists n x codes)) n (take lines (after .counts)) sum (zeros n) (before .free) (before .rounds) (mainSize n after) (after .free) (after .rounds)
+  pub flexed : FlexedLines (cleaned (c .«inner_main»)) (cleaned (c .«gap_main»)) (itemAt (mainLists n x codes)) n (take lines (after .counts)) sum (zeros n) (before .free) (before .rounds) (placedMainSize n after) (after .free) (after .rounds)
   -- "Main axis", of each line
-  pub spaced : MainLines (c .«inner_main») (c .«gap_main») (contentOf (c .«justify_content»)) (reversed c) (take lines (after .counts)) (mainItems n x codes (mainSize n after)) (zeros n) (zeros n) (zeros n) (mainOffset n after) (mainStart n after) (mainEnd n after)
+  pub spaced : MainLines (c .«inner_main») (c .«gap_main») (contentOf (c .«justify_content»)) (reversed c) (take lines (after .counts)) (mainItems n x codes (placedMainSize n after)) (zeros n) (zeros n) (zeros n) (placedMainOffset n after) (placedMainStart n after) (placedMainEnd n after)
   -- "Cross axis": the lines, sized by their items, along it
-  pub aligned : Aligned (crossAxis c) (contentOf (c .«align_content»)) (crossSizes (crossAxis c) (take lines (after .counts)) (crossItems n x codes) []) (zeros n) (zeros n) inner (lineSizes n after) (lineOffsets n after)
+  pub aligned : Aligned (crossAxis c) (contentOf (c .«align_content»)) (crossSizes (crossAxis c) (take lines (after .counts)) (crossItems n x codes) []) (zeros n) (zeros n) inner (laidLineSize n after) (laidLineOffset n after)
   -- and the items across each line
-  pub across : AcrossLines (isReversed (wrapMode c)) (take lines (after .counts)) (lineSizes n after) (crossItems n x codes) (alignSelf n codes) (autoSize n codes) (zeros n) (zeros n) (zeros n) (zeros n) (crossSize n after) (crossStart n after) (crossEnd n after) (crossOffset n after)
+  pub across : AcrossLines (isReversed (wrapMode c)) (take lines (after .counts)) (laidLineSize n after) (crossItems n x codes) (alignSelf n codes) (autoSize n codes) (zeros n) (zeros n) (zeros n) (zeros n) (placedCrossSize n after) (placedCrossStart n after) (placedCrossEnd n after) (placedCrossOffset n after)
   -- "all cells past the named ones are unchanged"
   pub placed-past : Past (8 * n) (before .placed) (after .placed)
   pub lines-past : Past (2 * n) (before .lines) (after .lines)

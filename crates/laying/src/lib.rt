@@ -8,7 +8,7 @@ use crossstage::lines_along;
 use mainstage::place_main_axis;
 
 // The cross axis: the lines along it, and then the items across each line. Answers the container's inner cross size.
-pub fn lay_cross<'a>(
+fn lay_cross<'a>(
     c: Container,
     n: usize,
     numbers: &'a [f32],

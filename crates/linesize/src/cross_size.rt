@@ -46,7 +46,7 @@ pub fn margin_sum(it: CrossItem) -> f32
 }
 
 // What an item asks of its line. Baselines change this step alone.
-pub fn outer_cross_size(it: CrossItem) -> f32
+fn outer_cross_size(it: CrossItem) -> f32
     ensures { λ r. ⌜ r ≡ outerSize it ⌝ }
 {
     clamp_item(it, it.measured) + margin_sum(it)

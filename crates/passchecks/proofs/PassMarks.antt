@@ -35,8 +35,8 @@ container-marks c p q e1 f1 f2 e2 f3 e3 f4 e4 f5 =
 abbrev pub acrossMarks : Items → List ℕ → List ℕ → ℕ → ℕ
 acrossMarks ls alignment auto-size n = leastUpTo (λ i. leastOf (acrossNumbersAt ls alignment auto-size i) (i + 1)) n
 
-pub sorted-as : {ls ls' : Items} {a a' s s' : List ℕ} → ls ≡ ls' → a ≡ a' → s ≡ s' → SameLengths ls' a' s' → SameLengths ls a s
-sorted-as {ls} {ls'} {a} {a'} {s} {s'} p q r h = subst (λ (l : Items). SameLengths l a s) (sym p) (subst (λ (y : List ℕ). SameLengths ls' y s) (sym q) (subst (λ (y : List ℕ). SameLengths ls' a' y) (sym r) h))
+pub lengths-as : {ls ls' : Items} {a a' s s' : List ℕ} → ls ≡ ls' → a ≡ a' → s ≡ s' → SameLengths ls' a' s' → SameLengths ls a s
+lengths-as {ls} {ls'} {a} {a'} {s} {s'} p q r h = subst (λ (l : Items). SameLengths l a s) (sym p) (subst (λ (y : List ℕ). SameLengths ls' y s) (sym q) (subst (λ (y : List ℕ). SameLengths ls' a' y) (sym r) h))
 
 pub across-as : {ls ls' : Items} {a a' s s' : List ℕ} {k k' m : ℕ} → ls ≡ ls' → a ≡ a' → s ≡ s' → k ≡ k' → m ≡ acrossMarks ls a s k → m ≡ acrossMarks ls' a' s' k'
 across-as {ls} {ls'} {a} {a'} {s} {s'} {k} {k'} p q r t e =

@@ -50,8 +50,8 @@ module _ {n : ℕ} {x : List Float} {c : List ℕ} (t : Listed n x c) where
 
   -- ---- the cross axis
 
-  pub sorted-cross : SameLengths (crossItems n x c) (alignSelf n c) (autoSize n c)
-  sorted-cross =
+  pub lengths-cross : SameLengths (crossItems n x c) (alignSelf n c) (autoSize n c)
+  lengths-cross =
       let b = number-length 8 (omega arith) in
       let number : (k : ℕ) → k < 14 → length (column n k x) ≡ length (column n 8 x) = λ k h. number-length k h ∙ sym b in
       let code : (k : ℕ) → k < 8 → length (column n k c) ≡ length (column n 8 x) = λ k h. code-length k h ∙ sym b in

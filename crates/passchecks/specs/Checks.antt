@@ -8,6 +8,7 @@ use lib.Ieee.{Float}
 use Rattle.grid.specs.Grid.{cleaned}
 use Rattle.refusal.specs.Domain.{Number, float, code, Input, checked, shape, summed, then}
 use Rattle.refusal.specs.declared.Verdict.{Verdict}
+use Rattle.refusal.specs.Shapes.{workRoom}
 use Rattle.refusal.specs.Optional.{optional}
 use Rattle.refusal.specs.declared.Kind.the-variants.{Length}
 use Rattle.flexing.specs.Flex.{outerSum}
@@ -21,15 +22,15 @@ use Rattle.container.specs.Container.{balances, crossNumbersOf}
 
 -- ---- checks 1 and 2
 
--- "balanced breaking also n·n+3n u32 cells and 3n f64 cells"
-unfoldable pub workRoom : ℕ → Wrap → ℕ → ℕ → Bool
-workRoom n wrap work sums = cond (balances wrap) (leb (n * n + 3 * n) work && leb (3 * n) sums) true
+-- the cells to work in, where lines are balanced
+unfoldable pub roomToBalance : ℕ → Wrap → ℕ → ℕ → Bool
+roomToBalance n wrap work sums = cond (balances wrap) (workRoom n work sums) true
 
 -- of the lengths of all lists: fourteen lists of n numbers and eight of n codes; then "n cells for each answer list", eight by item and two by line in
 -- lists of their own, counts, rounds and free space by line; and the cells to work in
 unfoldable pub passRoom : ℕ → Wrap → ℕ → ℕ → ℕ → ℕ → ℕ → ℕ → ℕ → ℕ → ℕ → Bool
 passRoom n wrap numbers codes placed lines counts rounds free work sums =
-    eqb numbers (14 * n) && (eqb codes (8 * n) && (leb (8 * n) placed && (leb (2 * n) lines && (leb n counts && (leb n rounds && (leb n free && workRoom n wrap work sums))))))
+    eqb numbers (14 * n) && (eqb codes (8 * n) && (leb (8 * n) placed && (leb (2 * n) lines && (leb n counts && (leb n rounds && (leb n free && roomToBalance n wrap work sums))))))
 
 -- ---- checks 3, 4 and 5
 

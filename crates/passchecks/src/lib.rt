@@ -8,7 +8,7 @@ ghost use Rattle.flexchecks.specs.Input.{inputOf};
 ghost use Rattle.crosschecks.specs.Numbers.{acrossNumbersAt};
 ghost use Rattle.container.specs.Columns.{mainLists, crossItems, alignSelf, autoSize};
 ghost use Rattle.container.specs.Container.{wrapMode, balances, crossNumbersOf};
-ghost use Rattle.passchecks.specs.Checks.{workRoom, passRoom, containerNumbers, passInput};
+ghost use Rattle.passchecks.specs.Checks.{roomToBalance, passRoom, containerNumbers, passInput};
 ghost use Rattle.container.specs.Stages.{Listed};
 use container::Container;
 use container::columns::code_column;
@@ -22,12 +22,13 @@ use refusal::Refusal;
 use refusal::Verdict;
 use refusal::least;
 use refusal::shapes::has_room;
+use refusal::shapes::has_work_room;
 use refusal::shapes::is_alike;
 use single::mark_code;
 use single::mark_given;
 
 // Whether the lines are balanced, and so need cells to work in.
-pub fn is_balanced(wrap: Wrap) -> bool
+fn is_balanced(wrap: Wrap) -> bool
     ensures { λ r. ⌜ r ≡ balances wrap ⌝ }
 {
     match wrap {
@@ -39,18 +40,18 @@ pub fn is_balanced(wrap: Wrap) -> bool
     }
 }
 
-fn has_work_room(n: usize, wrap: Wrap, work: usize, sums: usize) -> bool
+fn has_room_to_balance(n: usize, wrap: Wrap, work: usize, sums: usize) -> bool
     requires { ⌜ n ≤ 1024 ⌝ }
-    ensures { λ r. ⌜ r ≡ workRoom n wrap work sums ⌝ }
+    ensures { λ r. ⌜ r ≡ roomToBalance n wrap work sums ⌝ }
 {
     if is_balanced(wrap) {
-        return has_room(n * n + 3 * n, work, 3 * n <= sums);
+        return has_work_room(n, work, sums);
     }
     true
 }
 
 // Checks 1 and 2, from the lengths of the lists. More than 1,024 items are refused whatever the room, so their square is never taken.
-pub fn check_lists(
+fn check_lists(
     n: usize,
     wrap: Wrap,
     numbers: usize,
@@ -68,7 +69,7 @@ pub fn check_lists(
     if 1024 < n {
         return Verdict::Refused(Refusal::TooManyItems);
     }
-    let room = has_room(n, free, has_work_room(n, wrap, work, sums));
+    let room = has_room(n, free, has_room_to_balance(n, wrap, work, sums));
     let room = has_room(n, counts, has_room(n, rounds, room));
     let room = has_room(8 * n, placed, has_room(2 * n, lines, room));
     let even = is_alike(numbers, 14 * n, is_alike(codes, 8 * n, room));

@@ -2,3 +2,4 @@ pub mod Sweep
 pub mod Order
 pub mod Checks
 pub mod Marked
+pub mod Squares

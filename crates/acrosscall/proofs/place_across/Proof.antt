@@ -1,7 +1,7 @@
 -- `acrosscall::place_across` meets its contract: the checks refuse, or the items are placed. Assumes nothing.
 use denote.Ref.{now}
 use Rattle.linesize.specs.CrossSize.{Items, items}
-use Rattle.acrosscall.proofs.AcrossCalled.{across-sorted, across-shape-refused, across-numbers-refused, across-placed}
+use Rattle.acrosscall.proofs.AcrossCalled.{across-lengths, across-shape-refused, across-numbers-refused, across-placed}
 use borrow.Author.Needs.{needs}
 use Rattle.acrosscall.proofs.place_across.Statement.{statement}
 use Rattle.acrosscall.proofs.place_across.Tie as tie
@@ -30,7 +30,7 @@ returns c =
 check-across-numbers-requires : tie.Need-check-across-numbers-requires
 check-across-numbers-requires c κs =
     let s = c .before .before .before .before .before .before .before .before .before .before .before .before .before .before .before .before .before .before in
-    across-sorted (s .args .line) (s .args .reversed) (given s) (now (s .args .alignment)) (now (s .args .auto-size)) (now (s .args .sizes)) (now (s .args .used-start)) (now (s .args .used-end)) (now (s .args .offsets)) (c .before .before .check-across-shape .ensures) (c .enum-told .given .1) .0
+    across-lengths (s .args .line) (s .args .reversed) (given s) (now (s .args .alignment)) (now (s .args .auto-size)) (now (s .args .sizes)) (now (s .args .used-start)) (now (s .args .used-end)) (now (s .args .offsets)) (c .before .before .check-across-shape .ensures) (c .enum-told .given .1) .0
 
 enum-told-3 : tie.Need-enum-told-3
 enum-told-3 c = search needs
@@ -49,7 +49,7 @@ returns-2 c =
 place-items-requires : tie.Need-place-items-requires
 place-items-requires c κs =
     let s = c .before .before .before .before .before .before .before .before .before .before .before .before .before .before .before .before .before .before .before .before .before .before .before .before .before in
-    across-sorted (s .args .line) (s .args .reversed) (given s) (now (s .args .alignment)) (now (s .args .auto-size)) (now (s .args .sizes)) (now (s .args .used-start)) (now (s .args .used-end)) (now (s .args .offsets)) (c .before .before .before .before .before .before .before .before .before .check-across-shape .ensures) (c .before .before .before .before .before .before .before .enum-told .given .1)
+    across-lengths (s .args .line) (s .args .reversed) (given s) (now (s .args .alignment)) (now (s .args .auto-size)) (now (s .args .sizes)) (now (s .args .used-start)) (now (s .args .used-end)) (now (s .args .offsets)) (c .before .before .before .before .before .before .before .before .before .check-across-shape .ensures) (c .before .before .before .before .before .before .before .enum-told .given .1)
 
 same-length : tie.Need-same-length
 same-length c = search needs

@@ -7,7 +7,8 @@ use lib.Seq.{length-take-le}
 use borrow.Author.Needs.{needs}
 use Rattle.balance.specs.Calls.{lent}
 use Rattle.balance.specs.Parts.{Lists, lists, Room}
-use Rattle.balance.proofs.Call.{square-small, searches}
+use Rattle.refusal.proofs.Squares.{square-small}
+use Rattle.balance.proofs.Call.{searches}
 use Rattle.balance.proofs.divide_within.Statement.{statement}
 use Rattle.balance.proofs.divide_within.Tie as tie
 

@@ -5,7 +5,7 @@ use native.Mathlib.Omega.{arith}
 use lib.ListN.{length, getD}
 use denote.Ref.{now}
 use Rattle.linesize.specs.CrossSize.{Items, items}
-use Rattle.crosslines.proofs.Placing.{Placing, placing-none, placing-next, placing-all, Turn, turn-of, line-sized, lent-sorted, lent-room}
+use Rattle.crosslines.proofs.Placing.{Placing, placing-none, placing-next, placing-all, Turn, turn-of, line-sized, lent-lengths, lent-room}
 use Rattle.crosslines.proofs.across_by_line.Statement.{statement}
 use Rattle.crosslines.proofs.across_by_line.Tie as tie
 
@@ -242,7 +242,7 @@ part-place-items-end-15 c = turn (c .before .before .before .before .before .bef
 
 place-items-requires : tie.Need-place-items-requires Inv-loop μ-loop
 place-items-requires c κs =
-    let t = turn (c .before .before .before .before .before .before .before .before .before .before .before .before .before .before .before .before .before) in (lent-sorted t, lent-room t)
+    let t = turn (c .before .before .before .before .before .before .before .before .before .before .before .before .before .before .before .before .before) in (lent-lengths t, lent-room t)
 
 add-j : tie.Need-add-j Inv-loop μ-loop
 add-j c = omega (arith, start-of (c .before .before .before .before .before .before .before .before .before .before .before .before .before .before .before .before .before .before .before .before .before .before .before .before .before .before .before) .good .1 .0 .0, c .before .before .before .before .before .before .before .before .before .before .before .before .before .before .before .before .before .before .before .before .before .before .before .before .before .before .loop-test .taken)

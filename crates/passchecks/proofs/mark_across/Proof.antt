@@ -5,8 +5,8 @@ use denote.Ref.{now}
 use lib.ListN.{length}
 use Rattle.linesize.specs.CrossSize.{items}
 use Rattle.container.specs.Columns.{crossItems}
-use Rattle.passchecks.proofs.Taken.{number-inside, code-inside, number-length, sorted-cross, items-are}
-use Rattle.passchecks.proofs.PassMarks.{sorted-as, across-as}
+use Rattle.passchecks.proofs.Taken.{number-inside, code-inside, number-length, lengths-cross, items-are}
+use Rattle.passchecks.proofs.PassMarks.{lengths-as, across-as}
 use Rattle.passchecks.proofs.mark_across.Statement.{statement}
 use Rattle.passchecks.proofs.mark_across.Tie as tie
 
@@ -51,7 +51,7 @@ code-column-requires-5 : tie.Need-code-column-requires-5
 code-column-requires-5 c κs = code-inside (c .before .before .before .before .before .before .before .before .before .before .before .before .pre) 7 (omega arith)
 
 mark-across-requires : tie.Need-mark-across-requires
-mark-across-requires c κs = sorted-as (same c) (c .before .code-column4 .ensures) (c .code-column5 .ensures) (sorted-cross (start c .pre))
+mark-across-requires c κs = lengths-as (same c) (c .before .code-column4 .ensures) (c .code-column5 .ensures) (lengths-cross (start c .pre))
 
 returns : tie.Need-returns
 returns c = across-as (same (c .before)) (c .before .before .code-column4 .ensures) (c .before .code-column5 .ensures) (ap length (c .before .before .before .before .before .before .before .before .before .before .before .column .ensures) ∙ number-length (start (c .before) .pre) 8 (omega arith)) (c .mark-across .ensures)
