@@ -85,7 +85,180 @@ fn flex_in<'a>(
     )
 }
 
-// The table is of the frame, as small as serves: clearing it takes longer than flexing a short line.
+// The table is of the frame, of three lengths, as small as serves: clearing it takes longer than flexing a short line.
+fn flex_few<'a>(
+    inner: f32,
+    gap: f32,
+    base: &'a [f32],
+    minimum: &'a [f32],
+    maximum: &'a [f32],
+    has_maximum: &'a [u32],
+    edges: &'a [f32],
+    grow: &'a [f32],
+    shrink: &'a [f32],
+    start: &'a [f32],
+    end: &'a [f32],
+    auto_start: &'a [u32],
+    auto_end: &'a [u32],
+    targets: &mut [f32],
+) -> FlexAnswer
+    requires { ⌜ Checked inner gap (lists (now base) (now minimum) (now maximum) (now «has_maximum») (now edges) (now grow) (now shrink) (now start) (now end) (now «auto_start») (now «auto_end»)) (now targets) × (length (now base) ≤ 16) ⌝ }
+    ensures { λ r. ⌜ Answered (summed (outerSum (cleaned gap) (itemsOf (lists (now (base .entry)) (now (minimum .entry)) (now (maximum .entry)) (now («has_maximum» .entry)) (now (edges .entry)) (now (grow .entry)) (now (shrink .entry)) (now (start .entry)) (now (end .entry)) (now («auto_start» .entry)) (now («auto_end» .entry)))))) (cleaned inner) (cleaned gap) (itemsOf (lists (now (base .entry)) (now (minimum .entry)) (now (maximum .entry)) (now («has_maximum» .entry)) (now (edges .entry)) (now (grow .entry)) (now (shrink .entry)) (now (start .entry)) (now (end .entry)) (now («auto_start» .entry)) (now («auto_end» .entry)))) r (now (targets .entry)) (now (targets .exit)) ⌝ }
+{
+    let mut table = [0.0; 128];
+    flex_in(
+        inner,
+        gap,
+        base,
+        minimum,
+        maximum,
+        has_maximum,
+        edges,
+        grow,
+        shrink,
+        start,
+        end,
+        auto_start,
+        auto_end,
+        &mut table,
+        targets,
+    )
+}
+
+fn flex_some<'a>(
+    inner: f32,
+    gap: f32,
+    base: &'a [f32],
+    minimum: &'a [f32],
+    maximum: &'a [f32],
+    has_maximum: &'a [u32],
+    edges: &'a [f32],
+    grow: &'a [f32],
+    shrink: &'a [f32],
+    start: &'a [f32],
+    end: &'a [f32],
+    auto_start: &'a [u32],
+    auto_end: &'a [u32],
+    targets: &mut [f32],
+) -> FlexAnswer
+    requires { ⌜ Checked inner gap (lists (now base) (now minimum) (now maximum) (now «has_maximum») (now edges) (now grow) (now shrink) (now start) (now end) (now «auto_start») (now «auto_end»)) (now targets) × (length (now base) ≤ 128) ⌝ }
+    ensures { λ r. ⌜ Answered (summed (outerSum (cleaned gap) (itemsOf (lists (now (base .entry)) (now (minimum .entry)) (now (maximum .entry)) (now («has_maximum» .entry)) (now (edges .entry)) (now (grow .entry)) (now (shrink .entry)) (now (start .entry)) (now (end .entry)) (now («auto_start» .entry)) (now («auto_end» .entry)))))) (cleaned inner) (cleaned gap) (itemsOf (lists (now (base .entry)) (now (minimum .entry)) (now (maximum .entry)) (now («has_maximum» .entry)) (now (edges .entry)) (now (grow .entry)) (now (shrink .entry)) (now (start .entry)) (now (end .entry)) (now («auto_start» .entry)) (now («auto_end» .entry)))) r (now (targets .entry)) (now (targets .exit)) ⌝ }
+{
+    let mut table = [0.0; 1024];
+    flex_in(
+        inner,
+        gap,
+        base,
+        minimum,
+        maximum,
+        has_maximum,
+        edges,
+        grow,
+        shrink,
+        start,
+        end,
+        auto_start,
+        auto_end,
+        &mut table,
+        targets,
+    )
+}
+
+fn flex_many<'a>(
+    inner: f32,
+    gap: f32,
+    base: &'a [f32],
+    minimum: &'a [f32],
+    maximum: &'a [f32],
+    has_maximum: &'a [u32],
+    edges: &'a [f32],
+    grow: &'a [f32],
+    shrink: &'a [f32],
+    start: &'a [f32],
+    end: &'a [f32],
+    auto_start: &'a [u32],
+    auto_end: &'a [u32],
+    targets: &mut [f32],
+) -> FlexAnswer
+    requires { ⌜ Checked inner gap (lists (now base) (now minimum) (now maximum) (now «has_maximum») (now edges) (now grow) (now shrink) (now start) (now end) (now «auto_start») (now «auto_end»)) (now targets) ⌝ }
+    ensures { λ r. ⌜ Answered (summed (outerSum (cleaned gap) (itemsOf (lists (now (base .entry)) (now (minimum .entry)) (now (maximum .entry)) (now («has_maximum» .entry)) (now (edges .entry)) (now (grow .entry)) (now (shrink .entry)) (now (start .entry)) (now (end .entry)) (now («auto_start» .entry)) (now («auto_end» .entry)))))) (cleaned inner) (cleaned gap) (itemsOf (lists (now (base .entry)) (now (minimum .entry)) (now (maximum .entry)) (now («has_maximum» .entry)) (now (edges .entry)) (now (grow .entry)) (now (shrink .entry)) (now (start .entry)) (now (end .entry)) (now («auto_start» .entry)) (now («auto_end» .entry)))) r (now (targets .entry)) (now (targets .exit)) ⌝ }
+{
+    let mut table = [0.0; 8192];
+    flex_in(
+        inner,
+        gap,
+        base,
+        minimum,
+        maximum,
+        has_maximum,
+        edges,
+        grow,
+        shrink,
+        start,
+        end,
+        auto_start,
+        auto_end,
+        &mut table,
+        targets,
+    )
+}
+
+// Picks the table, with `flex_checked`: here for the lines that `flex_few` does not serve.
+fn flex_more<'a>(
+    inner: f32,
+    gap: f32,
+    base: &'a [f32],
+    minimum: &'a [f32],
+    maximum: &'a [f32],
+    has_maximum: &'a [u32],
+    edges: &'a [f32],
+    grow: &'a [f32],
+    shrink: &'a [f32],
+    start: &'a [f32],
+    end: &'a [f32],
+    auto_start: &'a [u32],
+    auto_end: &'a [u32],
+    targets: &mut [f32],
+) -> FlexAnswer
+    requires { ⌜ Checked inner gap (lists (now base) (now minimum) (now maximum) (now «has_maximum») (now edges) (now grow) (now shrink) (now start) (now end) (now «auto_start») (now «auto_end»)) (now targets) ⌝ }
+    ensures { λ r. ⌜ Answered (summed (outerSum (cleaned gap) (itemsOf (lists (now (base .entry)) (now (minimum .entry)) (now (maximum .entry)) (now («has_maximum» .entry)) (now (edges .entry)) (now (grow .entry)) (now (shrink .entry)) (now (start .entry)) (now (end .entry)) (now («auto_start» .entry)) (now («auto_end» .entry)))))) (cleaned inner) (cleaned gap) (itemsOf (lists (now (base .entry)) (now (minimum .entry)) (now (maximum .entry)) (now («has_maximum» .entry)) (now (edges .entry)) (now (grow .entry)) (now (shrink .entry)) (now (start .entry)) (now (end .entry)) (now («auto_start» .entry)) (now («auto_end» .entry)))) r (now (targets .entry)) (now (targets .exit)) ⌝ }
+{
+    if base.len() <= 128 {
+        return flex_some(
+            inner,
+            gap,
+            base,
+            minimum,
+            maximum,
+            has_maximum,
+            edges,
+            grow,
+            shrink,
+            start,
+            end,
+            auto_start,
+            auto_end,
+            targets,
+        );
+    }
+    flex_many(
+        inner,
+        gap,
+        base,
+        minimum,
+        maximum,
+        has_maximum,
+        edges,
+        grow,
+        shrink,
+        start,
+        end,
+        auto_start,
+        auto_end,
+        targets,
+    )
+}
+
 fn flex_checked<'a>(
     inner: f32,
     gap: f32,
@@ -106,8 +279,7 @@ fn flex_checked<'a>(
     ensures { λ r. ⌜ Answered (summed (outerSum (cleaned gap) (itemsOf (lists (now (base .entry)) (now (minimum .entry)) (now (maximum .entry)) (now («has_maximum» .entry)) (now (edges .entry)) (now (grow .entry)) (now (shrink .entry)) (now (start .entry)) (now (end .entry)) (now («auto_start» .entry)) (now («auto_end» .entry)))))) (cleaned inner) (cleaned gap) (itemsOf (lists (now (base .entry)) (now (minimum .entry)) (now (maximum .entry)) (now («has_maximum» .entry)) (now (edges .entry)) (now (grow .entry)) (now (shrink .entry)) (now (start .entry)) (now (end .entry)) (now («auto_start» .entry)) (now («auto_end» .entry)))) r (now (targets .entry)) (now (targets .exit)) ⌝ }
 {
     if base.len() <= 16 {
-        let mut few = [0.0; 128];
-        return flex_in(
+        return flex_few(
             inner,
             gap,
             base,
@@ -121,32 +293,10 @@ fn flex_checked<'a>(
             end,
             auto_start,
             auto_end,
-            &mut few,
             targets,
         );
     }
-    if base.len() <= 128 {
-        let mut some = [0.0; 1024];
-        return flex_in(
-            inner,
-            gap,
-            base,
-            minimum,
-            maximum,
-            has_maximum,
-            edges,
-            grow,
-            shrink,
-            start,
-            end,
-            auto_start,
-            auto_end,
-            &mut some,
-            targets,
-        );
-    }
-    let mut many = [0.0; 8192];
-    flex_in(
+    flex_more(
         inner,
         gap,
         base,
@@ -160,7 +310,6 @@ fn flex_checked<'a>(
         end,
         auto_start,
         auto_end,
-        &mut many,
         targets,
     )
 }
