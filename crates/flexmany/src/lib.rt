@@ -92,7 +92,207 @@ fn flex_lines_in<'a>(
     )
 }
 
-// The table is of the frame, as small as serves.
+// The table is of the frame, as small as serves: of three lengths, with a function for each.
+fn flex_lines_few<'a>(
+    inner: f32,
+    gap: f32,
+    counts: &'a [u32],
+    base: &'a [f32],
+    minimum: &'a [f32],
+    maximum: &'a [f32],
+    has_maximum: &'a [u32],
+    edges: &'a [f32],
+    grow: &'a [f32],
+    shrink: &'a [f32],
+    start: &'a [f32],
+    end: &'a [f32],
+    auto_start: &'a [u32],
+    auto_end: &'a [u32],
+    targets: &mut [f32],
+    free: &mut [i32],
+    rounds: &mut [u32],
+) -> Answer
+    requires { ⌜ CheckedLines inner gap (now counts) (lists (now base) (now minimum) (now maximum) (now «has_maximum») (now edges) (now grow) (now shrink) (now start) (now end) (now «auto_start») (now «auto_end»)) (now targets) (now free) (now rounds) × (length (now base) ≤ 16) ⌝ }
+    ensures { λ r. ⌜ AnsweredLines (summed (outerSum (cleaned gap) (itemsOf (lists (now (base .entry)) (now (minimum .entry)) (now (maximum .entry)) (now («has_maximum» .entry)) (now (edges .entry)) (now (grow .entry)) (now (shrink .entry)) (now (start .entry)) (now (end .entry)) (now («auto_start» .entry)) (now («auto_end» .entry)))))) (cleaned inner) (cleaned gap) (itemAt (lists (now (base .entry)) (now (minimum .entry)) (now (maximum .entry)) (now («has_maximum» .entry)) (now (edges .entry)) (now (grow .entry)) (now (shrink .entry)) (now (start .entry)) (now (end .entry)) (now («auto_start» .entry)) (now («auto_end» .entry)))) (count (lists (now (base .entry)) (now (minimum .entry)) (now (maximum .entry)) (now («has_maximum» .entry)) (now (edges .entry)) (now (grow .entry)) (now (shrink .entry)) (now (start .entry)) (now (end .entry)) (now («auto_start» .entry)) (now («auto_end» .entry)))) (now (counts .entry)) r (now (targets .entry)) (now (free .entry)) (now (rounds .entry)) (now (targets .exit)) (now (free .exit)) (now (rounds .exit)) ⌝ }
+{
+    let mut table = [0.0; 128];
+    flex_lines_in(
+        inner,
+        gap,
+        counts,
+        base,
+        minimum,
+        maximum,
+        has_maximum,
+        edges,
+        grow,
+        shrink,
+        start,
+        end,
+        auto_start,
+        auto_end,
+        &mut table,
+        targets,
+        free,
+        rounds,
+    )
+}
+
+fn flex_lines_some<'a>(
+    inner: f32,
+    gap: f32,
+    counts: &'a [u32],
+    base: &'a [f32],
+    minimum: &'a [f32],
+    maximum: &'a [f32],
+    has_maximum: &'a [u32],
+    edges: &'a [f32],
+    grow: &'a [f32],
+    shrink: &'a [f32],
+    start: &'a [f32],
+    end: &'a [f32],
+    auto_start: &'a [u32],
+    auto_end: &'a [u32],
+    targets: &mut [f32],
+    free: &mut [i32],
+    rounds: &mut [u32],
+) -> Answer
+    requires { ⌜ CheckedLines inner gap (now counts) (lists (now base) (now minimum) (now maximum) (now «has_maximum») (now edges) (now grow) (now shrink) (now start) (now end) (now «auto_start») (now «auto_end»)) (now targets) (now free) (now rounds) × (length (now base) ≤ 128) ⌝ }
+    ensures { λ r. ⌜ AnsweredLines (summed (outerSum (cleaned gap) (itemsOf (lists (now (base .entry)) (now (minimum .entry)) (now (maximum .entry)) (now («has_maximum» .entry)) (now (edges .entry)) (now (grow .entry)) (now (shrink .entry)) (now (start .entry)) (now (end .entry)) (now («auto_start» .entry)) (now («auto_end» .entry)))))) (cleaned inner) (cleaned gap) (itemAt (lists (now (base .entry)) (now (minimum .entry)) (now (maximum .entry)) (now («has_maximum» .entry)) (now (edges .entry)) (now (grow .entry)) (now (shrink .entry)) (now (start .entry)) (now (end .entry)) (now («auto_start» .entry)) (now («auto_end» .entry)))) (count (lists (now (base .entry)) (now (minimum .entry)) (now (maximum .entry)) (now («has_maximum» .entry)) (now (edges .entry)) (now (grow .entry)) (now (shrink .entry)) (now (start .entry)) (now (end .entry)) (now («auto_start» .entry)) (now («auto_end» .entry)))) (now (counts .entry)) r (now (targets .entry)) (now (free .entry)) (now (rounds .entry)) (now (targets .exit)) (now (free .exit)) (now (rounds .exit)) ⌝ }
+{
+    let mut table = [0.0; 1024];
+    flex_lines_in(
+        inner,
+        gap,
+        counts,
+        base,
+        minimum,
+        maximum,
+        has_maximum,
+        edges,
+        grow,
+        shrink,
+        start,
+        end,
+        auto_start,
+        auto_end,
+        &mut table,
+        targets,
+        free,
+        rounds,
+    )
+}
+
+fn flex_lines_many<'a>(
+    inner: f32,
+    gap: f32,
+    counts: &'a [u32],
+    base: &'a [f32],
+    minimum: &'a [f32],
+    maximum: &'a [f32],
+    has_maximum: &'a [u32],
+    edges: &'a [f32],
+    grow: &'a [f32],
+    shrink: &'a [f32],
+    start: &'a [f32],
+    end: &'a [f32],
+    auto_start: &'a [u32],
+    auto_end: &'a [u32],
+    targets: &mut [f32],
+    free: &mut [i32],
+    rounds: &mut [u32],
+) -> Answer
+    requires { ⌜ CheckedLines inner gap (now counts) (lists (now base) (now minimum) (now maximum) (now «has_maximum») (now edges) (now grow) (now shrink) (now start) (now end) (now «auto_start») (now «auto_end»)) (now targets) (now free) (now rounds) ⌝ }
+    ensures { λ r. ⌜ AnsweredLines (summed (outerSum (cleaned gap) (itemsOf (lists (now (base .entry)) (now (minimum .entry)) (now (maximum .entry)) (now («has_maximum» .entry)) (now (edges .entry)) (now (grow .entry)) (now (shrink .entry)) (now (start .entry)) (now (end .entry)) (now («auto_start» .entry)) (now («auto_end» .entry)))))) (cleaned inner) (cleaned gap) (itemAt (lists (now (base .entry)) (now (minimum .entry)) (now (maximum .entry)) (now («has_maximum» .entry)) (now (edges .entry)) (now (grow .entry)) (now (shrink .entry)) (now (start .entry)) (now (end .entry)) (now («auto_start» .entry)) (now («auto_end» .entry)))) (count (lists (now (base .entry)) (now (minimum .entry)) (now (maximum .entry)) (now («has_maximum» .entry)) (now (edges .entry)) (now (grow .entry)) (now (shrink .entry)) (now (start .entry)) (now (end .entry)) (now («auto_start» .entry)) (now («auto_end» .entry)))) (now (counts .entry)) r (now (targets .entry)) (now (free .entry)) (now (rounds .entry)) (now (targets .exit)) (now (free .exit)) (now (rounds .exit)) ⌝ }
+{
+    let mut table = [0.0; 8192];
+    flex_lines_in(
+        inner,
+        gap,
+        counts,
+        base,
+        minimum,
+        maximum,
+        has_maximum,
+        edges,
+        grow,
+        shrink,
+        start,
+        end,
+        auto_start,
+        auto_end,
+        &mut table,
+        targets,
+        free,
+        rounds,
+    )
+}
+
+// Picks one of the two larger tables.
+fn flex_lines_more<'a>(
+    inner: f32,
+    gap: f32,
+    counts: &'a [u32],
+    base: &'a [f32],
+    minimum: &'a [f32],
+    maximum: &'a [f32],
+    has_maximum: &'a [u32],
+    edges: &'a [f32],
+    grow: &'a [f32],
+    shrink: &'a [f32],
+    start: &'a [f32],
+    end: &'a [f32],
+    auto_start: &'a [u32],
+    auto_end: &'a [u32],
+    targets: &mut [f32],
+    free: &mut [i32],
+    rounds: &mut [u32],
+) -> Answer
+    requires { ⌜ CheckedLines inner gap (now counts) (lists (now base) (now minimum) (now maximum) (now «has_maximum») (now edges) (now grow) (now shrink) (now start) (now end) (now «auto_start») (now «auto_end»)) (now targets) (now free) (now rounds) ⌝ }
+    ensures { λ r. ⌜ AnsweredLines (summed (outerSum (cleaned gap) (itemsOf (lists (now (base .entry)) (now (minimum .entry)) (now (maximum .entry)) (now («has_maximum» .entry)) (now (edges .entry)) (now (grow .entry)) (now (shrink .entry)) (now (start .entry)) (now (end .entry)) (now («auto_start» .entry)) (now («auto_end» .entry)))))) (cleaned inner) (cleaned gap) (itemAt (lists (now (base .entry)) (now (minimum .entry)) (now (maximum .entry)) (now («has_maximum» .entry)) (now (edges .entry)) (now (grow .entry)) (now (shrink .entry)) (now (start .entry)) (now (end .entry)) (now («auto_start» .entry)) (now («auto_end» .entry)))) (count (lists (now (base .entry)) (now (minimum .entry)) (now (maximum .entry)) (now («has_maximum» .entry)) (now (edges .entry)) (now (grow .entry)) (now (shrink .entry)) (now (start .entry)) (now (end .entry)) (now («auto_start» .entry)) (now («auto_end» .entry)))) (now (counts .entry)) r (now (targets .entry)) (now (free .entry)) (now (rounds .entry)) (now (targets .exit)) (now (free .exit)) (now (rounds .exit)) ⌝ }
+{
+    if base.len() <= 128 {
+        return flex_lines_some(
+            inner,
+            gap,
+            counts,
+            base,
+            minimum,
+            maximum,
+            has_maximum,
+            edges,
+            grow,
+            shrink,
+            start,
+            end,
+            auto_start,
+            auto_end,
+            targets,
+            free,
+            rounds,
+        );
+    }
+    flex_lines_many(
+        inner,
+        gap,
+        counts,
+        base,
+        minimum,
+        maximum,
+        has_maximum,
+        edges,
+        grow,
+        shrink,
+        start,
+        end,
+        auto_start,
+        auto_end,
+        targets,
+        free,
+        rounds,
+    )
+}
+
 fn flex_lines_checked<'a>(
     inner: f32,
     gap: f32,
@@ -116,8 +316,7 @@ fn flex_lines_checked<'a>(
     ensures { λ r. ⌜ AnsweredLines (summed (outerSum (cleaned gap) (itemsOf (lists (now (base .entry)) (now (minimum .entry)) (now (maximum .entry)) (now («has_maximum» .entry)) (now (edges .entry)) (now (grow .entry)) (now (shrink .entry)) (now (start .entry)) (now (end .entry)) (now («auto_start» .entry)) (now («auto_end» .entry)))))) (cleaned inner) (cleaned gap) (itemAt (lists (now (base .entry)) (now (minimum .entry)) (now (maximum .entry)) (now («has_maximum» .entry)) (now (edges .entry)) (now (grow .entry)) (now (shrink .entry)) (now (start .entry)) (now (end .entry)) (now («auto_start» .entry)) (now («auto_end» .entry)))) (count (lists (now (base .entry)) (now (minimum .entry)) (now (maximum .entry)) (now («has_maximum» .entry)) (now (edges .entry)) (now (grow .entry)) (now (shrink .entry)) (now (start .entry)) (now (end .entry)) (now («auto_start» .entry)) (now («auto_end» .entry)))) (now (counts .entry)) r (now (targets .entry)) (now (free .entry)) (now (rounds .entry)) (now (targets .exit)) (now (free .exit)) (now (rounds .exit)) ⌝ }
 {
     if base.len() <= 16 {
-        let mut few = [0.0; 128];
-        return flex_lines_in(
+        return flex_lines_few(
             inner,
             gap,
             counts,
@@ -132,37 +331,12 @@ fn flex_lines_checked<'a>(
             end,
             auto_start,
             auto_end,
-            &mut few,
             targets,
             free,
             rounds,
         );
     }
-    if base.len() <= 128 {
-        let mut some = [0.0; 1024];
-        return flex_lines_in(
-            inner,
-            gap,
-            counts,
-            base,
-            minimum,
-            maximum,
-            has_maximum,
-            edges,
-            grow,
-            shrink,
-            start,
-            end,
-            auto_start,
-            auto_end,
-            &mut some,
-            targets,
-            free,
-            rounds,
-        );
-    }
-    let mut many = [0.0; 8192];
-    flex_lines_in(
+    flex_lines_more(
         inner,
         gap,
         counts,
@@ -177,7 +351,6 @@ fn flex_lines_checked<'a>(
         end,
         auto_start,
         auto_end,
-        &mut many,
         targets,
         free,
         rounds,
