@@ -9,7 +9,7 @@
  * Calls keep no state and allocate nothing: several threads may call at once, each on lists of its own.
  *
  * Lengths are pixels, whole multiples of 1/64, of at most 262,144 px either way; -0.0 reads as 0, and no answer is -0.0.
- * Sizes that are broken, limits, available space and margins may be negative; all other sizes, gaps and bounds may not. The sum over the items of
+ * Sizes that are broken, limits, available space and margins may be negative; all other sizes, gaps and bounds may not, unless said below. The sum over the items of
  * (|size| + gap) is at most 262,144 px.
  *
  * On acceptance of a breaking call the first n cells of `counts` hold the lines' item counts, and 0 past the last line. Cells past the named
@@ -88,9 +88,10 @@ fratolivem_answer fratolivem_greedy(uint32_t limit_kind, float limit, float gap,
 static inline size_t fratolivem_work_cells(size_t n) { return n > FRATOLIVEM_MOST_ITEMS ? 0 : n * n + 3 * n; }
 static inline size_t fratolivem_sum_cells(size_t n) { return n > FRATOLIVEM_MOST_ITEMS ? 0 : 3 * n; }
 
-/* Balanced breaking: as many lines as greedy breaking makes, or `minimum` held to 1..n if that is more, with the least sum of the
- * lines' sizes squared, and of equal ones the larger count at the first difference. Negative sizes read as 0.
- * Room: n counts, n*n + 3n cells of work and 3n of sums. Those work cells may hold any bits before and are 0 after acceptance. */
+/* Balanced breaking: as many lines as greedy breaking makes of these sizes, negative ones read as 0, or `minimum` held to 1..n if that is more.
+ * Of the divisions into so many lines in which each line has one item or fits, and a zero item after a line would not fit on it or would leave fewer
+ * items behind it than lines: the one with the least sum of the lines' sizes squared, and of equal ones the larger count at the first difference.
+ * Room: n counts, n*n + 3n cells of work and 3n of sums. Those of work and sums may hold any bits before and are 0 after acceptance. */
 fratolivem_answer fratolivem_balanced(uint32_t limit_kind, float limit, float gap, uint32_t minimum, const float *sizes,
                                       size_t n, uint32_t *counts, size_t counts_len, uint32_t *work, size_t work_len,
                                       double *sums, size_t sums_len);
@@ -235,7 +236,8 @@ fratolivem_answer fratolivem_place_across(float line, uint32_t reversed, const f
 
 enum { FRATOLIVEM_ROW = 0, FRATOLIVEM_ROW_REVERSE = 1, FRATOLIVEM_COLUMN = 2, FRATOLIVEM_COLUMN_REVERSE = 3 };
 
-/* A container by value. A number beside a flag `has_..` of 0 is absent and not read. */
+/* A container by value. A number beside a flag `has_..` of 0 is absent and not read. Zeros are not CSS's initial values, which are: the limit of
+ * fratolivem_break_limit, justify_content FLEX_START, align_content STRETCH, and all else 0. */
 typedef struct {
     float inner_main;
     float gap_main;
@@ -257,7 +259,8 @@ typedef struct {
 } fratolivem_container;
 
 /* An item as the host measured it. Main and cross are the container's axes, so a column's main sizes are heights. Edges are padding plus border.
- * A host that follows CSS hands over a base of at least the edges. A margin beside an auto flag of 1 is auto and not read. */
+ * A host that follows CSS hands over a base of at least the edges. A margin beside an auto flag of 1 is auto and not read. CSS's initial values
+ * are shrink 1, align_self STRETCH, auto_cross_size 1, and of what is not measured 0. */
 typedef struct {
     float main_base; /* flex base size */
     float main_minimum;
