@@ -89,8 +89,9 @@ static inline size_t fratolivem_work_cells(size_t n) { return n > FRATOLIVEM_MOS
 static inline size_t fratolivem_sum_cells(size_t n) { return n > FRATOLIVEM_MOST_ITEMS ? 0 : 3 * n; }
 
 /* Balanced breaking: as many lines as greedy breaking makes of these sizes, negative ones read as 0, or `minimum` held to 1..n if that is more.
- * Of the divisions into so many lines in which each line has one item or fits, and a zero item after a line would not fit on it or would leave fewer
- * items behind it than lines: the one with the least sum of the lines' sizes squared, and of equal ones the larger count at the first difference.
+ * Of the divisions into so many lines in which each line has one item or fits, and where the item after a line is zero, the line with it would not fit
+ * or fewer items would remain after that item than there are lines after this one: the one with the least sum of the lines' sizes squared, and of
+ * equal ones the larger count at the first difference.
  * Room: n counts, n*n + 3n cells of work and 3n of sums. Those of work and sums may hold any bits before and are 0 after acceptance. */
 fratolivem_answer fratolivem_balanced(uint32_t limit_kind, float limit, float gap, uint32_t minimum, const float *sizes,
                                       size_t n, uint32_t *counts, size_t counts_len, uint32_t *work, size_t work_len,
