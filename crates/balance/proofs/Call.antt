@@ -7,7 +7,7 @@ use Prim.Native.Nat.{ℕ, _+_, _-_, _*_, _≤_, _<_, zero-le}
 use native.Mathlib.Omega.{arith}
 use borrow.Author.Tests.{lt-ltb}
 use lib.Dec.{T, leb, leb→le}
-use lib.ListN.{length, take, drop, replicate, length-map, length-drop}
+use lib.ListN.{length, take, drop, replicate, length-map, length-drop, length-replicate}
 use lib.IntN.{ℤ}
 use lib.Ieee.{Float, binary64, ofBits}
 use Rattle.grid.specs.Grid.{sixtyFourths}
@@ -27,7 +27,7 @@ use Rattle.breaking.specs.Steps.{Breakable, filled, cleared}
 use Rattle.breaking.proofs.Accepted.{breakable}
 use Rattle.rule.specs.Rule.{floored, Valid}
 use Rattle.balance.specs.Calls.{Lent, lent, hasRoom, balancedVerdict, worked, Divides, BalancedCall}
-use Rattle.balance.specs.Parts.{Roomy, Lists, Room, Searched}
+use Rattle.balance.specs.Parts.{Roomy, lists, Room, Searched}
 use Rattle.balance.proofs.Cells.{cleared-part, clear-on}
 use Rattle.division.specs.Divided.{Divided, Cleared, ClearedF}
 use Rattle.rule.proofs.DpLaws.{lt-or-ge}
@@ -44,19 +44,21 @@ room-of n l t =
     let q = both (leb (n * n + 3 * n) (length (l .work))) (leb (3 * n) (length (l .sums))) (p .1) in
     (leb→le n (length (l .counts)) (p .0), leb→le (n * n + 3 * n) (length (l .work)) (q .0), leb→le (3 * n) (length (l .sums)) (q .1))
 
--- the search has room: in the lent lists, and in those of the frame
-pub search-room : (n most : ℕ) (l : Lists) → n ≤ most → Roomy n (lent (l .counts) (l .opts) (l .sums))
-    → length (l .fit) ≡ most → length (l .greedy) ≡ most → length (l .reach) ≡ most → length (l .prev) ≡ most → length (l .cur) ≡ most → Room n l
-search-room n most l h q f g r p c =
+-- the search has room: in the lent lists, and in those of the frame, which have `most` cells
+pub frame-room : (most n : ℕ) (counts work : List ℕ) (sums : List Float) → n ≤ most → Roomy n (lent counts work sums)
+    → Room n (lists counts work (replicate most 0) (replicate most 0) (replicate most 0) sums (replicate most (ofBits binary64 0)) (replicate most (ofBits binary64 0)))
+frame-room most n counts work sums h q =
+    let u : n ≤ length (replicate {A = ℕ} most 0) = omega (arith, length-replicate {A = ℕ} most 0) in
+    let f : n ≤ length (replicate most (ofBits binary64 0)) = omega (arith, length-replicate most (ofBits binary64 0)) in
     record {
       counts = q .0;
       opts = omega (arith, q .1);
-      fit = omega arith;
-      greedy = omega arith;
-      reach = omega arith;
+      fit = u;
+      greedy = u;
+      reach = u;
       sums = omega (arith, q .2);
-      prev = omega arith;
-      cur = omega arith;
+      prev = f;
+      cur = f;
     }
 
 -- ---- the cells

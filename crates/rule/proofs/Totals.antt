@@ -21,7 +21,8 @@ weigh : ℤ → List ℤ → ℕ
 weigh gap [] = 0
 weigh gap (x ∷ l) = natAbs x + natAbs gap + weigh gap l
 
-sum-first : (f : ℕ → ℕ) (k : ℕ) → sumUpTo f (suc k) ≡ f 0 + sumUpTo (λ i. f (suc i)) k
+-- a sum by its first number
+pub sum-first : (f : ℕ → ℕ) (k : ℕ) → sumUpTo f (suc k) ≡ f 0 + sumUpTo (λ i. f (suc i)) k
 unfolding sumUpTo
 sum-first f zero = omega arith
 sum-first f (suc k) = ap (λ (s : ℕ). s + f (suc k)) (sum-first f k) ∙ add-assoc (f 0) (sumUpTo (λ i. f (suc i)) k) (f (suc k))

@@ -3,7 +3,7 @@
 use mathlib.Core.Path.{_≡_, refl, sym, ap, _∙_, subst}
 use mathlib.Core.List.{List, [], _∷_, _++_, map}
 use Prim.Native.Nat.{ℕ, zero, suc, _+_, _-_, _≤_, _<_, zero-le}
-use native.Mathlib.Nat.{not-suc-le-zero, zero-lt-suc, le-of-suc-le-suc, add-assoc, add-zero}
+use native.Mathlib.Nat.{not-suc-le-zero, zero-lt-suc, le-of-suc-le-suc, add-zero}
 use native.Mathlib.Omega.{arith}
 use lib.ListN.{length, getD, take, drop, replicate, length-map, length-drop}
 use lib.Seq.{take-at}
@@ -19,6 +19,7 @@ use Rattle.breaking.specs.Calls.{units, written}
 use Rattle.breaking.proofs.Lines.{total, greedy-total, greedy-positive}
 use Rattle.balance.specs.Calls.{Lent}
 use Rattle.rule.specs.Rule.{floored, Valid}
+use Rattle.rule.proofs.Totals.{sum-first}
 use Rattle.rule.proofs.Unique.{balanced-one}
 use Rattle.wrapping.specs.declared.Mode.{Mode}
 use Rattle.wrapping.specs.declared.Mode.the-variants.{Single, Greedy, Balanced}
@@ -34,15 +35,10 @@ pub record Divides (n : ℕ) (lines : List ℕ) : Type 0 where
   pub small : (j : ℕ) → getD lines j 0 ≤ n
 
 -- the sum by places is the sum of the list
-sum-first : (c : ℕ) (d : List ℕ) (k : ℕ) → sumUpTo (λ j. getD (c ∷ d) j 0) (suc k) ≡ c + sumUpTo (λ j. getD d j 0) k
-unfolding sumUpTo
-sum-first c d zero = omega arith
-sum-first c d (suc k) = ap (λ (s : ℕ). s + getD d k 0) (sum-first c d k) ∙ add-assoc c (sumUpTo (λ j. getD d j 0) k) (getD d k 0)
-
 sum-total : (l : List ℕ) → sumUpTo (λ j. getD l j 0) (length l) ≡ total l
 unfolding sumUpTo total
 sum-total [] = refl
-sum-total (c ∷ d) = sum-first c d (length d) ∙ ap (λ (s : ℕ). c + s) (sum-total d)
+sum-total (c ∷ d) = sum-first (λ j. getD (c ∷ d) j 0) (length d) ∙ ap (λ (s : ℕ). c + s) (sum-total d)
 
 count-small : (l : List ℕ) (j : ℕ) → getD l j 0 ≤ total l
 unfolding total
