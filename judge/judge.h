@@ -1,5 +1,6 @@
 /* The entry points of libjudge.a, which judge/build makes of the Rust's own text. Rust may be handed what it takes alone: no n of 0 to
- * judge_balance, judge_cross_size or judge_pass, and no code that no row names. */
+ * judge_balance, judge_cross_size or judge_pass, and no code that no row names but 11 of align_self, `safe
+ * stretch`. */
 #ifndef JUDGE_H
 #define JUDGE_H
 

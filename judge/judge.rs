@@ -1,7 +1,7 @@
 //! The judge: taffy's flexbox as published, stage by stage, behind C entry points (judge.h).
 //!
 //! `geometry.rs` and `alignment.rs` are the crate's files, and `cut.rs` holds the items that judge/build cuts by name out of its flexbox.rs, all
-//! unchanged. What that text takes from files that we were not given stands here, in its smallest form, and nothing else does: no rule of
+//! unchanged. What that text takes from files that are not to be had stands here, in its smallest form, and nothing else does: no rule of
 //! breaking, flexing or placing is written in this file, only the order in which the crate's own `compute_preliminary` calls its stages.
 
 #![allow(dead_code, dropping_copy_types, private_interfaces)]

@@ -225,7 +225,7 @@ private:
         k.minimum_lines = uint32_t(one_in(3) ? below(c.items.size() + 3) : 1);
         return c;
     }
-    // Breaking: as lists.hpp has them, and lists made to slip a midpoint search: runs of zeros after mixed sizes.
+    // Breaking: ties, zero items, negative sizes and full lines made likely, and lists made to slip a midpoint search: runs of zeros after mixed sizes.
     Case breaking(Stage stage) {
         Case c{stage, {}, {}, {}, {}};
         Breaking &b = c.breaking;

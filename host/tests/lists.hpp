@@ -1,4 +1,4 @@
-// Random lists for the tests and the judge: they make ties, zero items, negative sizes and lines that are exactly full likely.
+// Random lists for the tests: they make ties, zero items, negative sizes and lines that are exactly full likely.
 #ifndef LISTS_HPP
 #define LISTS_HPP
 

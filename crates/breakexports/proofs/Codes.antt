@@ -21,7 +21,7 @@ use Rattle.balance.specs.Calls.{Lent, hasRoom, BalancedCall}
 use Rattle.crossing.specs.declared.CAnswer.{CAnswer}
 use Rattle.crossing.specs.Crossing.{cAnswer}
 use Rattle.breaklimit.specs.Limit.{spaceOf}
-use Rattle.breakexports.specs.Breaks.{kindNumber, greedyFromC, balancedFromC, BalancedFromC}
+use Rattle.breakexports.specs.Breaks.{kindNumber, greedyFromC, balancedVerdictFromC, BalancedFromC}
 
 -- a verdict that refused, as the answer of a call: no lines were made, so it does not matter which would have been
 as-refused : (v : Verdict) (lines : List ℕ) (n : ℕ) (before : List ℕ) → ¬ (v ≡ Passed) → (asAnswer v 0 0 ≡ brokenInto v lines n before .answer) × (before ≡ brokenInto v lines n before .counts)
@@ -47,7 +47,7 @@ module _ (kind : ℕ) (limit gap : Float) (sizes : List Float) (before : List �
   named h = ap (λ (w : Verdict). brokenInto w (greedy (limitOf (spaceOf kind limit)) (sixtyFourths gap) (units sizes)) (length sizes) before) (sym (as-without kind (spaceOf kind limit) gap sizes (leb (length sizes) (length before)) h))
 
 module _ (kind : ℕ) (limit gap : Float) (minimum : ℕ) (sizes : List Float) (before : Lent) where
-  pub balanced-unnamed : 2 < kind → (v : Verdict) → v ≡ balancedFromC kind limit gap sizes before → (r : CAnswer) → r ≡ cAnswer (asAnswer v 0 0) → BalancedFromC kind limit gap minimum sizes before r before
+  pub balanced-unnamed : 2 < kind → (v : Verdict) → v ≡ balancedVerdictFromC kind limit gap sizes before → (r : CAnswer) → r ≡ cAnswer (asAnswer v 0 0) → BalancedFromC kind limit gap minimum sizes before r before
   balanced-unnamed h v e r f = record {
     refused = λ why g. (f ∙ ap (λ (w : Verdict). cAnswer (asAnswer w 0 0)) (e ∙ g), refl);
     accepted = λ g. absurd (never-passes kind (spaceOf kind limit) gap sizes (hasRoom (length sizes) before) h g);

@@ -12,13 +12,13 @@ use Rattle.balance.proofs.Call.{divides-one}
 use Rattle.crossing.specs.declared.CAnswer.{CAnswer}
 use Rattle.crossing.specs.Crossing.{cAnswer}
 use Rattle.breaklimit.specs.Limit.{spaceOf}
-use Rattle.breakexports.specs.Breaks.{balancedFromC, BalancedFromC}
+use Rattle.breakexports.specs.Breaks.{balancedVerdictFromC, BalancedFromC}
 
 module _ (kind : ℕ) (limit gap : Float) (minimum : ℕ) (sizes : List Float) (before : Lent) where
   pub one-balanced : (r s : CAnswer) (a c : Lent) → BalancedFromC kind limit gap minimum sizes before r a → BalancedFromC kind limit gap minimum sizes before s c → (r ≡ s) × (a ≡ c)
-  one-balanced r s a c p q = go (balancedFromC kind limit gap sizes before) refl
+  one-balanced r s a c p q = go (balancedVerdictFromC kind limit gap sizes before) refl
     where
-      go : (v : Verdict) → balancedFromC kind limit gap sizes before ≡ v → (r ≡ s) × (a ≡ c)
+      go : (v : Verdict) → balancedVerdictFromC kind limit gap sizes before ≡ v → (r ≡ s) × (a ≡ c)
       go (Refused why) e =
           let x = p .refused why e in
           let y = q .refused why e in

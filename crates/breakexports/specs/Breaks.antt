@@ -38,10 +38,10 @@ pub record Crossed (r : CAnswer) (counts : List ℕ) (b : Broken) : Type 0 where
 
 -- ---- balanced breaking from C
 
-abbrev pub balancedFromC : ℕ → Float → Float → List Float → Lent → Verdict
-balancedFromC kind limit gap sizes before = breakingVerdict (kindNumber kind) (spaceOf kind limit) gap sizes (hasRoom (length sizes) before)
+abbrev pub balancedVerdictFromC : ℕ → Float → Float → List Float → Lent → Verdict
+balancedVerdictFromC kind limit gap sizes before = breakingVerdict (kindNumber kind) (spaceOf kind limit) gap sizes (hasRoom (length sizes) before)
 
 -- the call inside, with the kind's code among the numbers that are checked
 pub record BalancedFromC (kind : ℕ) (limit gap : Float) (minimum : ℕ) (sizes : List Float) (before : Lent) (r : CAnswer) (after : Lent) : Type 0 where
-  pub refused : (why : Refusal) → balancedFromC kind limit gap sizes before ≡ verdict.Refused why → (r ≡ cAnswer (answer.Refused why)) × (after ≡ before)
-  pub accepted : balancedFromC kind limit gap sizes before ≡ Passed → (lines : ℕ) × (r ≡ cAnswer (Done lines 0)) × Divides (spaceOf kind limit) gap minimum sizes before lines after
+  pub refused : (why : Refusal) → balancedVerdictFromC kind limit gap sizes before ≡ verdict.Refused why → (r ≡ cAnswer (answer.Refused why)) × (after ≡ before)
+  pub accepted : balancedVerdictFromC kind limit gap sizes before ≡ Passed → (lines : ℕ) × (r ≡ cAnswer (Done lines 0)) × Divides (spaceOf kind limit) gap minimum sizes before lines after

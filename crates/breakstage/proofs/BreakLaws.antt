@@ -1,5 +1,5 @@
 -- Breaking the items of a table: by equal values, and the lines read back out of the counts. Assumes nothing.
-use mathlib.Core.Path.{_≡_, refl, sym, ap, _∙_, subst}
+use mathlib.Core.Path.{_≡_, sym, ap, _∙_, subst}
 use mathlib.Core.List.{List}
 use Prim.Native.Nat.{ℕ, _≤_}
 use native.Mathlib.Nat.{le-trans, le-of-eq}
@@ -7,20 +7,17 @@ use lib.ListN.{length, take}
 use lib.Ieee.{Float}
 use Rattle.grid.specs.Grid.{cleaned}
 use Rattle.breaklimit.specs.declared.AvailableSpace.{AvailableSpace}
-use Rattle.breaking.specs.Calls.{written}
 use Rattle.breaking.specs.Steps.{Breakable}
 use Rattle.itemtable.specs.Table.{itemsIn}
 use Rattle.balance.specs.Calls.{Lent}
-use Rattle.wrapping.specs.declared.Mode.{Mode}
-use Rattle.wrapping.specs.declared.Mode.the-variants.{Single, Greedy, Balanced}
-use Rattle.wrapping.specs.Wrapping as wrapping
-use Rattle.wrapping.specs.Wrapping.{modeOf, Wrapped}
+use Rattle.linesize.specs.declared.container.Mode.{Mode}
+use Rattle.wrapping.specs.Wrapping.{Wrapped}
 use Rattle.wrapping.specs.Parts.{Room}
 use Rattle.wrapping.specs.Outer.{outerSizes}
 use Rattle.wrapping.proofs.Given.{sizes-long}
-use Rattle.wrapping.proofs.Division.{Divides, lines-divide, read-back}
+use Rattle.wrapping.proofs.Division.{Divides, wrapped-counts, wrapped-divides}
 use Rattle.container.specs.declared.Container.{Container}
-use Rattle.container.specs.Container.{limitSpace, wrapMode}
+use Rattle.container.specs.Container.{limitSpace, breakMode}
 use Rattle.breakstage.specs.BreakStage.{Broken}
 
 -- ---- breaking
@@ -38,28 +35,12 @@ module _ {m m' : Mode} {l l' : AvailableSpace} {g g' : Float} {s s' : List Float
 
 -- ---- the lines, read back
 
-listed-counts : (mode : Mode) (n : ℕ) (lines : List ℕ) (b : Lent) → wrapping.listed mode n lines b .counts ≡ written n lines (b .counts)
-listed-counts Single n lines b = refl
-listed-counts Greedy n lines b = refl
-listed-counts Balanced n lines b = refl
-
-module _ (mode : Mode) (limit : AvailableSpace) (gap : Float) (minimum : ℕ) (sizes : List Float) {b a : Lent} {k : ℕ} (w : Wrapped mode limit gap minimum sizes b k a) where
-  wrapped-back : take k (a .counts) ≡ w .lines
-  wrapped-back =
-      ap (λ (j : ℕ). take j (a .counts)) (w .number)
-      ∙ ap (take (length (w .lines))) (ap (λ (l : Lent). l .counts) (w .cells) ∙ listed-counts mode (length sizes) (w .lines) b)
-      ∙ read-back (length sizes) (w .lines) (b .counts)
-
-  -- they divide the items
-  pub wrapped-divides : Divides (length sizes) (take k (a .counts))
-  wrapped-divides = subst (Divides (length sizes)) (sym wrapped-back) (lines-divide limit gap minimum sizes mode (w .lines) (w .lines-are))
-
 module _ (c : Container) (n : ℕ) (t : List Float) {b a : Lent} {k : ℕ} (w : Broken c n t b k a) where
   lines-back : take k (a .counts) ≡ w .lines
-  lines-back = wrapped-back (modeOf (wrapMode c)) (limitSpace c) (cleaned (c .«gap_main»)) (c .«minimum_lines») (outerSizes (itemsIn t 0 n)) w
+  lines-back = wrapped-counts (limitSpace c) (cleaned (c .«gap_main»)) (c .«minimum_lines») (outerSizes (itemsIn t 0 n)) (breakMode c) w
 
   pub divides-of : Divides n (take k (a .counts))
-  divides-of = subst (λ (m : ℕ). Divides m (take k (a .counts))) (sizes-long t n) (wrapped-divides (modeOf (wrapMode c)) (limitSpace c) (cleaned (c .«gap_main»)) (c .«minimum_lines») (outerSizes (itemsIn t 0 n)) w)
+  divides-of = subst (λ (m : ℕ). Divides m (take k (a .counts))) (sizes-long t n) (wrapped-divides (limitSpace c) (cleaned (c .«gap_main»)) (c .«minimum_lines») (outerSizes (itemsIn t 0 n)) (breakMode c) w)
 
   pub lines-long : length (take k (a .counts)) ≡ k
   lines-long = ap length lines-back ∙ sym (w .number)

@@ -1,27 +1,12 @@
 // The lines of the whole pass (document 01, "Breaking"), of the items that the table holds.
-ghost use mathlib.Core.Path.{_≡_};
 ghost use Rattle.balance.specs.Calls as balance;
-ghost use Rattle.wrapping.specs.Wrapping.{modeOf};
 ghost use Rattle.breakstage.specs.BreakStage.{Breaks, Broken};
 use breaklimit::space_of;
 use container::Container;
-use linesize::container::Wrap;
+use linesize::container::mode_of;
 use linesize::container::wrap_of;
-use wrapping::Mode;
 use wrapping::break_lines;
 use wrapping::outer_sizes;
-
-fn mode_of(wrap: Wrap) -> Mode
-    ensures { λ r. ⌜ r ≡ modeOf wrap ⌝ }
-{
-    match wrap {
-        Wrap::NoWrap => Mode::Single,
-        Wrap::Wrap => Mode::Greedy,
-        Wrap::WrapReverse => Mode::Greedy,
-        Wrap::Balance => Mode::Balanced,
-        Wrap::BalanceReverse => Mode::Balanced,
-    }
-}
 
 // The lines of a table's items, by the wrap mode: counts by line, and how many lines there are. No entry point: it asks what the checks show.
 pub fn break_items(

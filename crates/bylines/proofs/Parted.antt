@@ -13,7 +13,8 @@ use Rattle.flexlines.proofs.Going.{ends-before, other-cells, own-cells, later}
 use Rattle.flexlines.proofs.Alone.{by-parts}
 use Rattle.grid.specs.Floats.{each}
 use Rattle.align.specs.Lists.{overwritten}
-use Rattle.bylines.specs.Parts.{Division, Past}
+use Rattle.bylines.specs.Parts.{Division}
+use Rattle.bylines.specs.Past.{Past}
 
 -- ---- the ranges
 

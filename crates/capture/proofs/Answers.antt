@@ -20,7 +20,8 @@ use Rattle.breaking.specs.Calls.{breakingVerdict}
 use Rattle.balance.specs.Calls.{Lent, hasRoom, balancedVerdict, BalancedCall}
 use Rattle.format.specs.Reading.{Reading, whole, broken, reading}
 use Rattle.feeding.specs.Machine.{Fed, withSizes, fed, started, finished}
-use Rattle.capture.specs.Answer.{replyOf, verdictOf, ByVerdict, ByCount, Answered, AnsweredTo}
+use Rattle.capture.specs.Answer.{verdictOf, ByVerdict, ByCount, Answered}
+use Rattle.capture.specs.Parts.{replyOf, AnsweredTo}
 use Rattle.format.specs.declared.Head.{Head}
 use Rattle.feeding.specs.declared.Reader.{Reader}
 use Rattle.feeding.specs.declared.Captured.{Captured}

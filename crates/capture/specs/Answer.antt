@@ -4,31 +4,20 @@ use mathlib.Core.Bool.{Bool, true, false}
 use mathlib.Core.List.{List, []}
 use Prim.Native.Nat.{ℕ}
 use lib.Dec.{ltb}
-use lib.ListN.{length, take}
+use lib.ListN.{length}
 use lib.Ieee.{Float}
 use Rattle.grid.specs.Grid.{sixtyFourths}
 use Rattle.refusal.specs.declared.Refusal.the-variants.{TooManyItems}
 use Rattle.refusal.specs.declared.Verdict.{Verdict}
 use Rattle.refusal.specs.declared.Verdict.the-variants.{Passed}
 use Rattle.refusal.specs.declared.Verdict.the-variants as verdict
-use Rattle.refusal.specs.declared.Answer.{Answer}
-use Rattle.refusal.specs.declared.Answer.the-variants.{Done}
-use Rattle.refusal.specs.declared.Answer.the-variants as answer
 use Rattle.breaking.specs.Breaking.{limitOf}
 use Rattle.breaking.specs.Calls.{breakingVerdict, units, written}
 use Rattle.rule.specs.Rule.{Balanced}
 use Rattle.format.specs.Reading.{Reading, whole, broken}
 use Rattle.format.specs.declared.Head.{Head}
-use Rattle.feeding.specs.declared.Captured.{Captured}
-use Rattle.feeding.specs.declared.Captured.the-variants.{Whole}
-use Rattle.feeding.specs.declared.Captured.the-variants as captured
 use Rattle.spelling.specs.declared.Reply.{Reply}
 use Rattle.spelling.specs.declared.Reply.the-variants.{Lines, Refused, Broken}
-
--- a breaking call's answer as the capture's
-abbrev pub replyOf : Answer → Reply
-replyOf (Done lines rounds) = Lines lines
-replyOf (answer.Refused why) = Refused why
 
 -- checks 3 to 6 of the numbers: there is always room
 abbrev pub verdictOf : Head → List Float → Verdict
@@ -58,8 +47,3 @@ ByCount false head sizes before r after = ByVerdict (verdictOf head sizes) head 
 abbrev pub Answered : Reading → List ℕ → Reply → List ℕ → Type 0
 Answered (broken place) before r after = Refuses (Broken place) before r after
 Answered (whole head sizes) before r after = ByCount (ltb 64 (length sizes)) head sizes before r after
-
--- the same of a finished reader, which keeps 64 sizes
-abbrev pub AnsweredTo : Captured → List Float → List ℕ → Reply → List ℕ → Type 0
-AnsweredTo (captured.Broken place) room before r after = Refuses (Broken place) before r after
-AnsweredTo (Whole head items) room before r after = ByCount (ltb 64 items) head (take items room) before r after

@@ -12,7 +12,7 @@ use Rattle.linesize.specs.CrossSize.{Items, items}
 unfoldable pub column : {A : Type 0} → ℕ → ℕ → List A → List A
 column n k l = take n (drop (k * n) l)
 
--- a list of n cells that nothing has been written to
+-- n cells of 0.0, over which what is answered is put
 abbrev pub zeros : ℕ → List Float
 zeros n = replicate n nought
 

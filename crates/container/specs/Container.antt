@@ -1,12 +1,12 @@
--- The container of the pass, one struct of numbers: what it says of the limit, the direction and the cross axis. Assumes nothing.
-use mathlib.Core.Bool.{Bool, true, false, _||_}
+-- The container of the pass, one struct of numbers: what it says of the limit, the direction, how lines break, and the cross axis. Assumes nothing.
+use mathlib.Core.Bool.{Bool, _||_}
 use lib.Dec.{eqb}
 use Rattle.breaklimit.specs.declared.AvailableSpace.{AvailableSpace}
 use Rattle.breaklimit.specs.Limit.{spaceOf}
 use Rattle.linesize.specs.declared.container.Wrap.{Wrap}
-use Rattle.linesize.specs.declared.container.Wrap.the-variants as wrap
+use Rattle.linesize.specs.declared.container.Mode.{Mode}
 use Rattle.linesize.specs.declared.container.Cross.{Cross}
-use Rattle.linesize.specs.Container.{wrapOf}
+use Rattle.linesize.specs.Container.{wrapOf, modeOf}
 use Rattle.crosschecks.specs.declared.numbers.CrossNumbers.{CrossNumbers}
 use Rattle.crosschecks.specs.Numbers.{crossOf}
 use Rattle.container.specs.declared.Container.{Container}
@@ -23,13 +23,9 @@ reversed c = eqb (c .direction) 1 || eqb (c .direction) 3
 abbrev pub wrapMode : Container → Wrap
 wrapMode c = wrapOf (c .wrap)
 
--- "balanced breaking", which alone asks for cells to work in
-abbrev pub balances : Wrap → Bool
-balances wrap.NoWrap = false
-balances wrap.Wrap = false
-balances wrap.WrapReverse = false
-balances wrap.Balance = true
-balances wrap.BalanceReverse = true
+-- how its lines break
+abbrev pub breakMode : Container → Mode
+breakMode c = modeOf (wrapMode c)
 
 -- the cross axis in numbers, wrap mode and all
 abbrev pub crossNumbersOf : Container → CrossNumbers

@@ -21,25 +21,9 @@ pub fn longest_list(
 ) -> usize
     ensures { λ r. ⌜ r ≡ max measured (max minimum (max maximum (max capped (max edges (max start (max end (max «auto_start» (max «auto_end» rest)))))))) ⌝ }
 {
-    larger(
-        measured,
-        larger(
-            minimum,
-            larger(
-                maximum,
-                larger(
-                    capped,
-                    larger(
-                        edges,
-                        larger(
-                            start,
-                            larger(end, larger(auto_start, larger(auto_end, rest))),
-                        ),
-                    ),
-                ),
-            ),
-        ),
-    )
+    let longest = larger(end, larger(auto_start, larger(auto_end, rest)));
+    let longest = larger(capped, larger(edges, larger(start, longest)));
+    larger(measured, larger(minimum, larger(maximum, longest)))
 }
 
 // Whether all of the nine are as long as the first, and the rest holds.
@@ -57,33 +41,9 @@ pub fn are_alike(
 ) -> bool
     ensures { λ r. ⌜ r ≡ (eqb measured measured && (eqb minimum measured && (eqb maximum measured && (eqb capped measured && (eqb edges measured && (eqb start measured && (eqb end measured && (eqb «auto_start» measured && (eqb «auto_end» measured && rest))))))))) ⌝ }
 {
-    is_alike(
-        measured,
-        measured,
-        is_alike(
-            minimum,
-            measured,
-            is_alike(
-                maximum,
-                measured,
-                is_alike(
-                    capped,
-                    measured,
-                    is_alike(
-                        edges,
-                        measured,
-                        is_alike(
-                            start,
-                            measured,
-                            is_alike(
-                                end,
-                                measured,
-                                is_alike(auto_start, measured, is_alike(auto_end, measured, rest)),
-                            ),
-                        ),
-                    ),
-                ),
-            ),
-        ),
-    )
+    let alike = is_alike(auto_start, measured, is_alike(auto_end, measured, rest));
+    let alike = is_alike(start, measured, is_alike(end, measured, alike));
+    let alike = is_alike(capped, measured, is_alike(edges, measured, alike));
+    let alike = is_alike(minimum, measured, is_alike(maximum, measured, alike));
+    is_alike(measured, measured, alike)
 }

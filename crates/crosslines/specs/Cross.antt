@@ -7,7 +7,7 @@ use lib.Ieee.{Float, nan}
 use Rattle.linesize.specs.CrossSize.{Items, count}
 use Rattle.crossaxis.specs.CrossAxis.{Across}
 use Rattle.flexlines.specs.Lines.{part}
-use Rattle.bylines.specs.Parts.{Past}
+use Rattle.bylines.specs.Past.{Past}
 use Rattle.sizelines.specs.Sizes.{crossLine}
 
 -- the lent cells after the walk, beside those before it

@@ -7,7 +7,7 @@ use Rattle.linesize.specs.CrossSize.{Items, count}
 use Rattle.crossaxis.specs.Parts.{SameLengths, Room}
 use Rattle.bylines.specs.Parts.{Division}
 
--- what the pass's checks show: the lines have the items of the lists, each line has a size, and there is room for the items
+-- what the checks and the breaking before it have shown: the lines have the items of the lists, each line has a size, and there is room for the items
 pub record AcrossReady (counts : List ℕ) (lines : List Float) (ls : Items) (alignment auto-size : List ℕ) (sizes starts ends offsets : List Float) : Type 0 where
   pub lengths : SameLengths ls alignment auto-size
   pub division : Division counts (count ls)

@@ -7,7 +7,8 @@ use lib.Ieee.{Float}
 use Rattle.align.specs.Align.{contentOf}
 use Rattle.linesize.specs.Container.{isReversed}
 use Rattle.crossaxis.specs.Lines.{Aligned}
-use Rattle.bylines.specs.Parts.{Division, Past}
+use Rattle.bylines.specs.Parts.{Division}
+use Rattle.bylines.specs.Past.{Past}
 use Rattle.sizelines.specs.Sizes.{crossSizes}
 use Rattle.crosslines.specs.Cross.{AcrossLines}
 use Rattle.container.specs.declared.Container.{Container}

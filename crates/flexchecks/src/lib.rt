@@ -40,65 +40,16 @@ fn check_lengths(
 ) -> Verdict
     ensures { λ r. ⌜ r ≡ shapes.shapeOf (base ∷ minimum ∷ maximum ∷ «has_maximum» ∷ edges ∷ grow ∷ shrink ∷ start ∷ end ∷ «auto_start» ∷ «auto_end» ∷ []) (room ∷ []) base ⌝ }
 {
-    let longest = larger(
-        base,
-        larger(
-            minimum,
-            larger(
-                maximum,
-                larger(
-                    has_maximum,
-                    larger(
-                        edges,
-                        larger(
-                            grow,
-                            larger(
-                                shrink,
-                                larger(start, larger(end, larger(auto_start, larger(auto_end, 0)))),
-                            ),
-                        ),
-                    ),
-                ),
-            ),
-        ),
-    );
-    let even = is_alike(
-        base,
-        base,
-        is_alike(
-            minimum,
-            base,
-            is_alike(
-                maximum,
-                base,
-                is_alike(
-                    has_maximum,
-                    base,
-                    is_alike(
-                        edges,
-                        base,
-                        is_alike(
-                            grow,
-                            base,
-                            is_alike(
-                                shrink,
-                                base,
-                                is_alike(
-                                    start,
-                                    base,
-                                    is_alike(
-                                        end,
-                                        base,
-                                        is_alike(auto_start, base, is_alike(auto_end, base, true)),
-                                    ),
-                                ),
-                            ),
-                        ),
-                    ),
-                ),
-            ),
-        ),
-    );
+    let longest = larger(end, larger(auto_start, larger(auto_end, 0)));
+    let longest = larger(grow, larger(shrink, larger(start, longest)));
+    let longest = larger(maximum, larger(has_maximum, larger(edges, longest)));
+    let longest = larger(base, larger(minimum, longest));
+    let even = is_alike(auto_start, base, is_alike(auto_end, base, true));
+    let even = is_alike(start, base, is_alike(end, base, even));
+    let even = is_alike(grow, base, is_alike(shrink, base, even));
+    let even = is_alike(has_maximum, base, is_alike(edges, base, even));
+    let even = is_alike(minimum, base, is_alike(maximum, base, even));
+    let even = is_alike(base, base, even);
     refusal::check_shape(longest, has_room(base, room, even))
 }
 

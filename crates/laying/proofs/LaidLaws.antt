@@ -22,10 +22,9 @@ use Rattle.wrapping.specs.Wrapping as wrapping
 use Rattle.wrapping.specs.Outer.{outerSizes}
 use Rattle.container.specs.declared.Container.{Container}
 use Rattle.container.specs.Columns.{column, mainLists, zeros, mainItems}
-use Rattle.container.specs.Container.{limitSpace, reversed, wrapMode}
+use Rattle.container.specs.Container.{limitSpace, reversed, breakMode}
 use Rattle.container.specs.Stages.{Listed}
 use Rattle.passchecks.proofs.Taken.{number-length}
-use Rattle.wrapping.specs.Wrapping.{modeOf}
 use Rattle.breakstage.specs.BreakStage.{Broken}
 use Rattle.breakstage.proofs.BreakLaws.{divides-of}
 use Rattle.mainstage.specs.Stage as main
@@ -89,7 +88,7 @@ module _ {c : Container} {n : ℕ} {t x : List Float} {codes : List ℕ} {placed
       let f = m .main .run in
       let same : (j : ℕ) → j < 4 → column n j p ≡ column n j placed = λ j h. sym (q .across .others j h) in
       record {
-        broken = subst (λ (l : List Item). wrapping.Wrapped (modeOf (wrapMode c)) (limitSpace c) (cleaned (c .«gap_main»)) (c .«minimum_lines») (outerSizes l) (balance.lent counts₀ work₀ sums₀) k (balance.lent counts work sums)) e (m .broken);
+        broken = subst (λ (l : List Item). wrapping.Wrapped (breakMode c) (limitSpace c) (cleaned (c .«gap_main»)) (c .«minimum_lines») (outerSizes l) (balance.lent counts₀ work₀ sums₀) k (balance.lent counts work sums)) e (m .broken);
         flexed = subst (λ (y : List Float). FlexedLines (cleaned (c .«inner_main»)) (cleaned (c .«gap_main»)) (itemAt (mainLists n x codes)) n (take k counts) sum (zeros n) free₀ rounds₀ y free rounds) (same 0 (omega arith)) (f .flexed);
         spaced =
             subst (λ (y : List Float). Spaced y (column n 1 placed) (column n 2 placed) (column n 3 placed)) (same 0 (omega arith))

@@ -1,4 +1,4 @@
--- "In accepted runs a line's targets, rounds and main offsets depend only on the container, the line ranges and its own items": two runs in one container
+-- In "accepted runs a line's targets, rounds and main offsets depend only on the container, the line ranges and its own items": two runs in one container
 -- that agree on a line's items, and on nothing else, say the same of it. By the same of flexing and of the main axis. Assumes nothing.
 use mathlib.Core.Path.{_≡_, sym, ap, _∙_}
 use mathlib.Core.List.{List}

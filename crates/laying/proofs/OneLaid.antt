@@ -15,11 +15,12 @@ use Rattle.flexlines.specs.Lines.{FlexedLines}
 use Rattle.flexlines.proofs.Alone.{OneFlexed, one-flexed}
 use Rattle.balance.specs.Calls as balance
 use Rattle.wrapping.specs.Outer.{outerSizes}
-use Rattle.wrapping.proofs.Division.{no-choice}
+use Rattle.wrapping.proofs.Division.{no-choice, wrapped-divides}
 use Rattle.align.specs.Align.{contentOf}
 use Rattle.linesize.specs.Container.{isReversed}
 use Rattle.crossaxis.specs.Lines.{Aligned}
-use Rattle.bylines.specs.Parts.{Division, Past}
+use Rattle.bylines.specs.Parts.{Division}
+use Rattle.bylines.specs.Past.{Past}
 use Rattle.mainlines.specs.Main.{MainLines}
 use Rattle.sizelines.specs.Sizes.{crossSizes}
 use Rattle.crosslines.specs.Cross.{AcrossLines}
@@ -27,12 +28,10 @@ use Rattle.mainlines.proofs.Spacing as spacing
 use Rattle.crosslines.proofs.Placing as placing
 use Rattle.container.specs.declared.Container.{Container}
 use Rattle.container.specs.Columns.{column, mainLists, crossItems, alignSelf, autoSize, zeros, mainItems}
-use Rattle.container.specs.Container.{limitSpace, reversed, wrapMode, crossAxis}
+use Rattle.container.specs.Container.{limitSpace, reversed, wrapMode, breakMode, crossAxis}
 use Rattle.container.specs.Stages.{Listed}
 use Rattle.container.proofs.ColumnLaws.{before, length-column}
 use Rattle.passchecks.proofs.Taken.{number-length}
-use Rattle.wrapping.specs.Wrapping.{modeOf}
-use Rattle.breakstage.proofs.BreakLaws.{wrapped-divides}
 use Rattle.laying.specs.Laid.{Lent, lent, Laid}
 
 -- ---- lists of lists
@@ -67,13 +66,13 @@ module _ (c : Container) (n : ℕ) (x : List Float) (codes : List ℕ) (b : Lent
 
   module _ {k k' sum sum' : ℕ} {inner inner' : Float} {a d : Lent} (p : Laid c n x codes b k sum inner a) (q : Laid c n x codes b k' sum' inner' d) where
     lines-one : (k ≡ k') × (balance.lent (a .counts) (a .work) (a .sums) ≡ balance.lent (d .counts) (d .work) (d .sums))
-    lines-one = no-choice (limitSpace c) (cleaned (c .«gap_main»)) (c .«minimum_lines») (outerSizes (itemsOf (mainLists n x codes))) (modeOf (wrapMode c)) _ k k' _ _ (p .broken) (q .broken)
+    lines-one = no-choice (limitSpace c) (cleaned (c .«gap_main»)) (c .«minimum_lines») (outerSizes (itemsOf (mainLists n x codes))) (breakMode c) _ k k' _ _ (p .broken) (q .broken)
 
     counts-one : take k' (d .counts) ≡ take k (a .counts)
     counts-one = sym (ap₂ (λ (j : ℕ) (y : balance.Lent). take j (y .counts)) (lines-one .0) (lines-one .1))
 
     division : Division (take k (a .counts)) n
-    division = wrapped-divides (modeOf (wrapMode c)) (limitSpace c) (cleaned (c .«gap_main»)) (c .«minimum_lines») (outerSizes (itemsOf (mainLists n x codes))) (p .broken) .whole ∙ many
+    division = wrapped-divides (limitSpace c) (cleaned (c .«gap_main»)) (c .«minimum_lines») (outerSizes (itemsOf (mainLists n x codes))) (breakMode c) (p .broken) .whole ∙ many
 
     flexed-one : OneFlexed sum sum' (column n 0 (a .placed)) (column n 0 (d .placed)) (a .free) (d .free) (a .rounds) (d .rounds)
     flexed-one = one-flexed (take k (a .counts)) division (p .flexed) (subst (λ (y : List ℕ). FlexedLines (cleaned (c .«inner_main»)) (cleaned (c .«gap_main»)) (itemAt (mainLists n x codes)) n y sum' (zeros n) (b .free) (b .rounds) (column n 0 (d .placed)) (d .free) (d .rounds)) counts-one (q .flexed))

@@ -9,18 +9,17 @@ use Rattle.flexing.specs.Items.{itemAt, itemsOf}
 use Rattle.flexlines.specs.Lines.{FlexedLines}
 use Rattle.balance.specs.Calls as balance
 use Rattle.wrapping.specs.Wrapping as wrapping
-use Rattle.wrapping.specs.Wrapping.{modeOf}
 use Rattle.wrapping.specs.Outer.{outerSizes}
 use Rattle.align.specs.Align.{contentOf}
 use Rattle.linesize.specs.Container.{isReversed}
 use Rattle.crossaxis.specs.Lines.{Aligned}
-use Rattle.bylines.specs.Parts.{Past}
+use Rattle.bylines.specs.Past.{Past}
 use Rattle.mainlines.specs.Main.{MainLines}
 use Rattle.sizelines.specs.Sizes.{crossSizes}
 use Rattle.crosslines.specs.Cross.{AcrossLines}
 use Rattle.container.specs.declared.Container.{Container}
 use Rattle.container.specs.Columns.{column, zeros, mainLists, mainItems, crossItems, alignSelf, autoSize}
-use Rattle.container.specs.Container.{limitSpace, reversed, wrapMode, crossAxis}
+use Rattle.container.specs.Container.{limitSpace, reversed, wrapMode, breakMode, crossAxis}
 
 -- ---- the lent lists
 
@@ -74,12 +73,12 @@ laidLineOffset n l = column n 1 (l .lines)
 -- so many lines, the sum of their rounds, and the container's inner cross size
 pub record Laid (c : Container) (n : ℕ) (x : List Float) (codes : List ℕ) (before : Lent) (lines sum : ℕ) (inner : Float) (after : Lent) : Type 0 where
   -- "Breaking", of the hypothetical outer main sizes
-  pub broken : wrapping.Wrapped (modeOf (wrapMode c)) (limitSpace c) (cleaned (c .«gap_main»)) (c .«minimum_lines») (outerSizes (itemsOf (mainLists n x codes))) (balance.lent (before .counts) (before .work) (before .sums)) lines (balance.lent (after .counts) (after .work) (after .sums))
+  pub broken : wrapping.Wrapped (breakMode c) (limitSpace c) (cleaned (c .«gap_main»)) (c .«minimum_lines») (outerSizes (itemsOf (mainLists n x codes))) (balance.lent (before .counts) (before .work) (before .sums)) lines (balance.lent (after .counts) (after .work) (after .sums))
   -- "Flexible lengths", of each line
   pub flexed : FlexedLines (cleaned (c .«inner_main»)) (cleaned (c .«gap_main»)) (itemAt (mainLists n x codes)) n (take lines (after .counts)) sum (zeros n) (before .free) (before .rounds) (placedMainSize n after) (after .free) (after .rounds)
   -- "Main axis", of each line
   pub spaced : MainLines (c .«inner_main») (c .«gap_main») (contentOf (c .«justify_content»)) (reversed c) (take lines (after .counts)) (mainItems n x codes (placedMainSize n after)) (zeros n) (zeros n) (zeros n) (placedMainOffset n after) (placedMainStart n after) (placedMainEnd n after)
-  -- "Cross axis": the lines, sized by their items, along it
+  -- "Cross axis": the lines, sized by their items, along it. Sizes and offsets are put over n zeros: "cells past the last line get 0"
   pub aligned : Aligned (crossAxis c) (contentOf (c .«align_content»)) (crossSizes (crossAxis c) (take lines (after .counts)) (crossItems n x codes) []) (zeros n) (zeros n) inner (laidLineSize n after) (laidLineOffset n after)
   -- and the items across each line
   pub across : AcrossLines (isReversed (wrapMode c)) (take lines (after .counts)) (laidLineSize n after) (crossItems n x codes) (alignSelf n codes) (autoSize n codes) (zeros n) (zeros n) (zeros n) (zeros n) (placedCrossSize n after) (placedCrossStart n after) (placedCrossEnd n after) (placedCrossOffset n after)

@@ -27,13 +27,13 @@ pub record Asked : Type 0 where
   pub row : ℕ
   pub kind : ℕ
   pub available : Float
-  pub low : ℕ
+  pub «has_minimum» : ℕ
   pub minimum : Float
-  pub high : ℕ
+  pub «has_maximum» : ℕ
   pub maximum : Float
 
 abbrev pub askedCodes : Asked → List Number
-askedCodes a = code 1 (a .known) ∷ (code 1 (a .main) ∷ (code 1 (a .row) ∷ (code 2 (a .kind) ∷ (code 1 (a .low) ∷ (code 1 (a .high) ∷ [])))))
+askedCodes a = code 1 (a .known) ∷ (code 1 (a .main) ∷ (code 1 (a .row) ∷ (code 2 (a .kind) ∷ (code 1 (a .«has_minimum») ∷ (code 1 (a .«has_maximum») ∷ [])))))
 
 abbrev pub queryOf : Asked → Query
 queryOf a = record {
@@ -41,8 +41,8 @@ queryOf a = record {
   «main_is_definite» = flag (a .main);
   «is_row» = flag (a .row);
   available = spaceOf (a .kind) (a .available);
-  minimum = boundOf (a .low) (a .minimum);
-  maximum = boundOf (a .high) (a .maximum);
+  minimum = boundOf (a .«has_minimum») (a .minimum);
+  maximum = boundOf (a .«has_maximum») (a .maximum);
 }
 
 -- a limit as it crosses: its kind, and its number where it is definite

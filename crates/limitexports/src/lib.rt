@@ -66,8 +66,15 @@ fn no_limit(r: CAnswer) -> CLimit
 }
 
 // The mark of the codes of a break limit, all of them the container's.
-fn mark_codes(known: u32, main: u32, row: u32, kind: u32, low: u32, high: u32) -> Mark
-    ensures { λ r. ⌜ ((x y z : Float) → r .0 ≡ leastOf (askedCodes (record { known = known; main = main; row = row; kind = kind; available = x; low = low; minimum = y; high = high; maximum = z })) 0) ⌝ }
+fn mark_codes(
+    known: u32,
+    main: u32,
+    row: u32,
+    kind: u32,
+    has_minimum: u32,
+    has_maximum: u32,
+) -> Mark
+    ensures { λ r. ⌜ ((x y z : Float) → r .0 ≡ leastOf (askedCodes (record { known = known; main = main; row = row; kind = kind; available = x; «has_minimum» = «has_minimum»; minimum = y; «has_maximum» = «has_maximum»; maximum = z })) 0) ⌝ }
 {
     let flags = refusal::least(
         single::mark_code(1, known, 0),
@@ -75,7 +82,10 @@ fn mark_codes(known: u32, main: u32, row: u32, kind: u32, low: u32, high: u32) -
     );
     let kinds = refusal::least(
         single::mark_code(2, kind, 0),
-        refusal::least(single::mark_code(1, low, 0), single::mark_code(1, high, 0)),
+        refusal::least(
+            single::mark_code(1, has_minimum, 0),
+            single::mark_code(1, has_maximum, 0),
+        ),
     );
     refusal::least(flags, kinds)
 }
@@ -96,17 +106,17 @@ pub extern "C" fn fratolivem_break_limit(
     row: u32,
     kind: u32,
     available: f32,
-    low: u32,
+    has_minimum: u32,
     minimum: f32,
-    high: u32,
+    has_maximum: u32,
     maximum: f32,
 ) -> CLimit
-    ensures { λ r. ⌜ r ≡ limitFromC (record { known = known; main = main; row = row; kind = kind; available = available; low = low; minimum = minimum; high = high; maximum = maximum }) ⌝ }
+    ensures { λ r. ⌜ r ≡ limitFromC (record { known = known; main = main; row = row; kind = kind; available = available; «has_minimum» = «has_minimum»; minimum = minimum; «has_maximum» = «has_maximum»; maximum = maximum }) ⌝ }
 {
-    let codes = mark_codes(known, main, row, kind, low, high);
+    let codes = mark_codes(known, main, row, kind, has_minimum, has_maximum);
     let space = space_of(kind, available);
-    let least = bound_of(low, minimum);
-    let most = bound_of(high, maximum);
+    let least = bound_of(has_minimum, minimum);
+    let most = bound_of(has_maximum, maximum);
     let q = Query {
         known_is_definite: known == 1,
         main_is_definite: main == 1,

@@ -1,4 +1,4 @@
--- Document 01, "Cross axis": the container's inner cross size, and the bounds on it. Assumes nothing.
+-- Document 01, "Breaking" and "Cross axis": the wrap modes, and how lines break under each; the container's inner cross size, and the bounds on it. Assumes nothing.
 use mathlib.Core.Bool.{Bool, true, false}
 use mathlib.Core.List.{List, [], _∷_}
 use Prim.Native.Nat.{ℕ}
@@ -11,6 +11,8 @@ use Rattle.grid.specs.Floats.{lowered}
 use Rattle.breaklimit.specs.Limit.{raisedTo}
 use Rattle.linesize.specs.declared.container.Wrap.{Wrap}
 use Rattle.linesize.specs.declared.container.Wrap.the-variants as wrap
+use Rattle.linesize.specs.declared.container.Mode.{Mode}
+use Rattle.linesize.specs.declared.container.Mode.the-variants.{Single, Greedy, Balanced}
 use Rattle.linesize.specs.declared.container.Cross.{Cross}
 
 -- ---- wrapping, by its code
@@ -21,6 +23,14 @@ wraps = wrap.NoWrap ∷ wrap.Wrap ∷ wrap.WrapReverse ∷ wrap.Balance ∷ wrap
 -- codes 0 to 4. Any other is refused with 5; it reads as nowrap, so that it asks for no work cells before
 abbrev pub wrapOf : ℕ → Wrap
 wrapOf c = getD wraps c wrap.NoWrap
+
+-- how a container breaks its lines; reversed wrapping breaks as wrapping does
+abbrev pub modeOf : Wrap → Mode
+modeOf wrap.NoWrap = Single
+modeOf wrap.Wrap = Greedy
+modeOf wrap.WrapReverse = Greedy
+modeOf wrap.Balance = Balanced
+modeOf wrap.BalanceReverse = Balanced
 
 abbrev pub isSingleLine : Wrap → Bool
 isSingleLine wrap.NoWrap = true

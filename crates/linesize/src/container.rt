@@ -1,6 +1,6 @@
 // The container's cross axis: how it wraps, its inner size, and the bounds on it.
 ghost use mathlib.Core.Path.{_≡_};
-ghost use Rattle.linesize.specs.Container.{wrapOf, isSingleLine, isReversed, loweredTo, readBound, readCross, bounded, innerSize, orBounded};
+ghost use Rattle.linesize.specs.Container.{wrapOf, modeOf, isSingleLine, isReversed, loweredTo, readBound, readCross, bounded, innerSize, orBounded};
 use breaklimit::Bound;
 use breaklimit::raise_to;
 use grid::floats::lower;
@@ -33,6 +33,25 @@ pub fn wrap_of(code: u32) -> Wrap
         3 => Wrap::Balance,
         4 => Wrap::BalanceReverse,
         _ => Wrap::NoWrap,
+    }
+}
+
+// Whether a container's items make one line (nowrap), greedy lines (wrap) or balanced lines (balance).
+pub enum Mode {
+    Single,
+    Greedy,
+    Balanced,
+}
+
+pub fn mode_of(wrap: Wrap) -> Mode
+    ensures { λ r. ⌜ r ≡ modeOf wrap ⌝ }
+{
+    match wrap {
+        Wrap::NoWrap => Mode::Single,
+        Wrap::Wrap => Mode::Greedy,
+        Wrap::WrapReverse => Mode::Greedy,
+        Wrap::Balance => Mode::Balanced,
+        Wrap::BalanceReverse => Mode::Balanced,
     }
 }
 

@@ -7,7 +7,7 @@ use lib.Ieee.{Float}
 use Rattle.align.specs.declared.ContentAlignment.{ContentAlignment}
 use Rattle.mainaxis.specs.MainAxis.{Line, line, count, Spaced}
 use Rattle.flexlines.specs.Lines.{part}
-use Rattle.bylines.specs.Parts.{Past}
+use Rattle.bylines.specs.Past.{Past}
 
 -- the items of line j
 abbrev pub mainLine : List ℕ → ℕ → Line → Line

@@ -7,7 +7,7 @@ use Rattle.mainaxis.specs.MainAxis.{Line, count}
 use Rattle.mainaxis.specs.Parts.{OneLength}
 use Rattle.bylines.specs.Parts.{Division}
 
--- what the pass's checks show: the lines have the items of the lists, and there is room for them
+-- what the checks and the breaking before it have shown: the lines have the items of the lists, and there is room for them
 pub record MainReady (counts : List ℕ) (l : Line) (offsets starts ends : List Float) : Type 0 where
   pub even : OneLength l
   pub division : Division counts (count l)

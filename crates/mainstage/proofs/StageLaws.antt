@@ -20,7 +20,7 @@ use Rattle.align.specs.declared.ContentAlignment.{ContentAlignment}
 use Rattle.grid.specs.Floats.{nought}
 use Rattle.align.specs.Align.{contentOf}
 use Rattle.mainaxis.specs.MainAxis.{Line, line}
-use Rattle.bylines.specs.Parts.{Past}
+use Rattle.bylines.specs.Past.{Past}
 use Rattle.mainlines.specs.Main.{MainLines}
 use Rattle.mainlines.specs.Parts.{MainReady}
 use Rattle.container.specs.declared.Container.{Container}

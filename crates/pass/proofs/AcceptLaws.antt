@@ -1,6 +1,6 @@
 -- What the checks show of a pass: what every stage of it asks. By the laws of accepted numbers, of flexing's table and of breaking. Assumes nothing.
 use mathlib.Core.Path.{_≡_, refl, sym, ap, _∙_, subst}
-use mathlib.Core.Bool.{Bool, true}
+use mathlib.Core.Bool.{Bool}
 use mathlib.Core.List.{List}
 use Prim.Native.Nat.{ℕ, zero, suc, _+_, _*_, _≤_}
 use native.Mathlib.Nat.{le-trans, le-of-eq}
@@ -29,17 +29,16 @@ use Rattle.flexchecks.proofs.Accept.{inner-length, gap-length, measured-of, ref
 use Rattle.balance.specs.Calls as balance
 use Rattle.wrapping.specs.Parts.{Room}
 use Rattle.wrapping.proofs.Given.{table-breakable}
-use Rattle.linesize.specs.declared.container.Wrap.{Wrap}
-use Rattle.linesize.specs.declared.container.Wrap.the-variants as wrap
+use Rattle.linesize.specs.declared.container.Mode.{Mode}
+use Rattle.linesize.specs.declared.container.Mode.the-variants.{Single, Greedy, Balanced}
 use Rattle.container.specs.declared.Container.{Container}
 use Rattle.container.specs.Columns.{column, mainLists}
 use Rattle.breaklimit.specs.Limit.{spaceOf}
-use Rattle.container.specs.Container.{limitSpace, wrapMode, balances}
+use Rattle.container.specs.Container.{limitSpace, breakMode}
 use Rattle.container.specs.Stages.{Listed}
 use Rattle.passchecks.specs.Checks.{containerNumbers, passInput, passSum, passVerdict}
 use Rattle.passchecks.proofs.Taken.{number-length}
 use Rattle.passchecks.proofs.Rooms.{Roomy, roomy-of}
-use Rattle.wrapping.specs.Wrapping.{modeOf}
 use Rattle.laying.specs.Laid.{Lent}
 use Rattle.laying.specs.Stages.{Accepted}
 use Rattle.pass.specs.declared.PassAnswer.{PassAnswer}
@@ -55,12 +54,10 @@ limit-length (suc (suc k)) x f = tt
 
 -- ---- room for the lines
 
-room-of : (w : Wrap) (n : ℕ) (b : balance.Lent) → n ≤ length (b .counts) → (balances w ≡ true → (n * n + 3 * n ≤ length (b .work)) × (3 * n ≤ length (b .sums))) → Room (modeOf w) n b
-room-of wrap.NoWrap n b h work = h
-room-of wrap.Wrap n b h work = h
-room-of wrap.WrapReverse n b h work = h
-room-of wrap.Balance n b h work = (h, work refl .0, work refl .1)
-room-of wrap.BalanceReverse n b h work = (h, work refl .0, work refl .1)
+room-of : (mode : Mode) (n : ℕ) (b : balance.Lent) → n ≤ length (b .counts) → (mode ≡ Balanced → (n * n + 3 * n ≤ length (b .work)) × (3 * n ≤ length (b .sums))) → Room mode n b
+room-of Single n b h work = h
+room-of Greedy n b h work = h
+room-of Balanced n b h work = (h, work refl .0, work refl .1)
 
 -- "-0.0 reads as 0"
 clean-size : (x : Float) → Length x → sixtyFourths (cleaned x) ≡ sixtyFourths x
@@ -94,8 +91,8 @@ wide-of t n h few = (few, omega (arith, h))
 -- ---- all of it
 
 module _ {c : Container} {n : ℕ} {x : List Float} {codes : List ℕ} {b : Lent} (k : Checked c n x codes b) where
-  abbrev given : Roomy n (wrapMode c) (length x) (length codes) (length (b .placed)) (length (b .lines)) (length (b .counts)) (length (b .rounds)) (length (b .free)) (length (b .work)) (length (b .sums))
-  given = roomy-of n (wrapMode c) (length x) (length codes) (length (b .placed)) (length (b .lines)) (length (b .counts)) (length (b .rounds)) (length (b .free)) (length (b .work)) (length (b .sums)) (k .room)
+  abbrev given : Roomy n (breakMode c) (length x) (length codes) (length (b .placed)) (length (b .lines)) (length (b .counts)) (length (b .rounds)) (length (b .free)) (length (b .work)) (length (b .sums))
+  given = roomy-of n (breakMode c) (length x) (length codes) (length (b .placed)) (length (b .lines)) (length (b .counts)) (length (b .rounds)) (length (b .free)) (length (b .work)) (length (b .sums)) (k .room)
 
   pub listed-of : Listed n x codes
   listed-of = record { few = given .few; numbers-long = given .numbers-long; codes-long = given .codes-long }
@@ -137,7 +134,7 @@ module _ {c : Container} {n : ℕ} {x : List Float} {codes : List ℕ} {b : Lent
             breaks = record {
               wide = wide;
               breakable = table-breakable t n (cleaned (c .«gap_main»)) table-is w (limitSpace c) (given .few) (limit-length (c .«limit_kind») (c .limit) limit-fine) gap-is (g .1 .0, clean-size (c .«gap_main») (g .0) ∙ g .1 .1);
-              room = room-of (wrapMode c) n (balance.lent (b .counts) (b .work) (b .sums)) (given .counts-room) (given .work-room);
+              room = room-of (breakMode c) n (balance.lent (b .counts) (b .work) (b .sums)) (given .counts-room) (given .work-room);
             };
             within = w;
             placed-room = given .placed-room;

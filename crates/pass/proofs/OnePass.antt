@@ -10,7 +10,7 @@ use Rattle.refusal.specs.Domain.{checked, shape, summed}
 use Rattle.refusal.specs.declared.Verdict.the-variants as verdict
 use Rattle.refusal.proofs.Checks.{then-passed}
 use Rattle.container.specs.declared.Container.{Container}
-use Rattle.container.specs.Container.{wrapMode}
+use Rattle.container.specs.Container.{breakMode}
 use Rattle.passchecks.specs.Checks.{passInput, passSum, passRoom, passVerdict}
 use Rattle.passchecks.proofs.Rooms.{roomy-of}
 use Rattle.laying.specs.Laid.{Lent}
@@ -41,7 +41,7 @@ one-pass c n x codes b (Done k sum inner) (Refused w) a d p q = absurd (never (s
     never : verdict.Refused w ≡ verdict.Passed → ⊥
     never e = let z : _≡_ {A = ℕ} 0 1 = cc in omega arith
 one-pass c n x codes b (Done k sum inner) (Done k' sum' inner') a d p q =
-    let room = passRoom n (wrapMode c) (length x) (length codes) (length (b .placed)) (length (b .lines)) (length (b .counts)) (length (b .rounds)) (length (b .free)) (length (b .work)) (length (b .sums)) in
-    let g = roomy-of n (wrapMode c) (length x) (length codes) (length (b .placed)) (length (b .lines)) (length (b .counts)) (length (b .rounds)) (length (b .free)) (length (b .work)) (length (b .sums)) (passed-shape c n x codes room (p .0)) in
+    let room = passRoom n (breakMode c) (length x) (length codes) (length (b .placed)) (length (b .lines)) (length (b .counts)) (length (b .rounds)) (length (b .free)) (length (b .work)) (length (b .sums)) in
+    let g = roomy-of n (breakMode c) (length x) (length codes) (length (b .placed)) (length (b .lines)) (length (b .counts)) (length (b .rounds)) (length (b .free)) (length (b .work)) (length (b .sums)) (passed-shape c n x codes room (p .0)) in
     let o = laid-one c n x codes b (record { few = g .few; numbers-long = g .numbers-long; codes-long = g .codes-long }) (g .placed-room) (p .1) (q .1) in
     (done (o .0) (o .1) (o .2), o .3)

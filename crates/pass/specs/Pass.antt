@@ -7,7 +7,7 @@ use lib.Ieee.{Float}
 use Rattle.refusal.specs.declared.Verdict.{Verdict}
 use Rattle.refusal.specs.declared.Verdict.the-variants as verdict
 use Rattle.container.specs.declared.Container.{Container}
-use Rattle.container.specs.Container.{wrapMode}
+use Rattle.container.specs.Container.{breakMode}
 use Rattle.passchecks.specs.Checks.{passRoom, passVerdict}
 use Rattle.laying.specs.Laid.{Lent, Laid}
 use Rattle.pass.specs.declared.PassAnswer.{PassAnswer}
@@ -16,7 +16,7 @@ use Rattle.pass.specs.declared.PassAnswer.the-variants.{Done, Refused}
 -- checks 1 to 6, with the room of the lent lists
 abbrev pub verdictOf : Container → ℕ → List Float → List ℕ → Lent → Verdict
 verdictOf c n x codes b =
-    passVerdict c n x codes (passRoom n (wrapMode c) (length x) (length codes) (length (b .placed)) (length (b .lines)) (length (b .counts)) (length (b .rounds)) (length (b .free)) (length (b .work)) (length (b .sums)))
+    passVerdict c n x codes (passRoom n (breakMode c) (length x) (length codes) (length (b .placed)) (length (b .lines)) (length (b .counts)) (length (b .rounds)) (length (b .free)) (length (b .work)) (length (b .sums)))
 
 -- a refusal changes no cell
 abbrev pub Answered : Verdict → Container → ℕ → List Float → List ℕ → Lent → PassAnswer → Lent → Type 0

@@ -1,34 +1,24 @@
 -- The room of a call, list by list: what the tests of the lengths add up to, and what it shows. Assumes nothing.
 use mathlib.Core.Path.{_≡_, refl, sym, ap, _∙_}
-use mathlib.Core.Bool.{Bool, true, false, cond, _&&_, false≢true}
+use mathlib.Core.Bool.{Bool, true, false, _&&_, false≢true}
 use Prim.Native.Nat.{ℕ, _+_, _*_, _≤_}
 use lib.Dec.{eqb, leb}
 use borrow.Author.Tests.{leb-true, eqb-true}
 use Rattle.refusal.specs.Domain.{shape}
-use Rattle.refusal.specs.Shapes.{workRoom}
 use Rattle.refusal.specs.declared.Verdict.the-variants.{Passed}
 use Rattle.refusal.proofs.Checks.{shape-passed}
-use Rattle.linesize.specs.declared.container.Wrap.{Wrap}
-use Rattle.container.specs.Container.{balances}
-use Rattle.passchecks.specs.Checks.{roomToBalance, passRoom}
+use Rattle.linesize.specs.declared.container.Mode.{Mode}
+use Rattle.linesize.specs.declared.container.Mode.the-variants.{Balanced}
+use Rattle.passchecks.specs.Checks.{roomToBreak, passRoom}
 
-module _ (n : ℕ) (wrap : Wrap) (work sums : ℕ) where
-  pub work-needed : {b r : Bool} → b ≡ balances wrap → b ≡ true → r ≡ workRoom n work sums → r ≡ roomToBalance n wrap work sums
-  unfolding roomToBalance
-  work-needed p q e = e ∙ sym (ap (λ (t : Bool). cond t (workRoom n work sums) true) (sym p ∙ q))
-
-  pub no-work-needed : {b : Bool} → b ≡ balances wrap → b ≡ false → true ≡ roomToBalance n wrap work sums
-  unfolding roomToBalance
-  no-work-needed p q = sym (ap (λ (t : Bool). cond t (workRoom n work sums) true) (sym p ∙ q))
-
-pub room-is : (n : ℕ) (wrap : Wrap) (numbers codes placed lines counts rounds free work sums : ℕ) {r0 r1 r2 r3 r4 r5 r6 r7 : Bool} → r0 ≡ roomToBalance n wrap work sums → r1 ≡ (leb n free && r0) → r2 ≡ (leb n rounds && r1) → r3 ≡ (leb n counts && r2) → r4 ≡ (leb (2 * n) lines && r3) → r5 ≡ (leb (8 * n) placed && r4) → r6 ≡ (eqb codes (8 * n) && r5) → r7 ≡ (eqb numbers (14 * n) && r6)
-    → r7 ≡ passRoom n wrap numbers codes placed lines counts rounds free work sums
+pub room-is : (n : ℕ) (mode : Mode) (numbers codes placed lines counts rounds free work sums : ℕ) {r0 r1 r2 r3 r4 r5 r6 r7 : Bool} → r0 ≡ roomToBreak n mode work sums → r1 ≡ (leb n free && r0) → r2 ≡ (leb n rounds && r1) → r3 ≡ (leb n counts && r2) → r4 ≡ (leb (2 * n) lines && r3) → r5 ≡ (leb (8 * n) placed && r4) → r6 ≡ (eqb codes (8 * n) && r5) → r7 ≡ (eqb numbers (14 * n) && r6)
+    → r7 ≡ passRoom n mode numbers codes placed lines counts rounds free work sums
 unfolding passRoom
-room-is n wrap numbers codes placed lines counts rounds free work sums e0 e1 e2 e3 e4 e5 e6 e7 = rw (e7, e6, e5, e4, e3, e2, e1, e0)
+room-is n mode numbers codes placed lines counts rounds free work sums e0 e1 e2 e3 e4 e5 e6 e7 = rw (e7, e6, e5, e4, e3, e2, e1, e0)
 
 -- ---- what checks 1 and 2 show
 
-pub record Roomy (n : ℕ) (wrap : Wrap) (numbers codes placed lines counts rounds free work sums : ℕ) : Type 0 where
+pub record Roomy (n : ℕ) (mode : Mode) (numbers codes placed lines counts rounds free work sums : ℕ) : Type 0 where
   pub few : n ≤ 1024
   pub numbers-long : numbers ≡ 14 * n
   pub codes-long : codes ≡ 8 * n
@@ -37,16 +27,16 @@ pub record Roomy (n : ℕ) (wrap : Wrap) (numbers codes placed lines counts roun
   pub counts-room : n ≤ counts
   pub rounds-room : n ≤ rounds
   pub free-room : n ≤ free
-  pub work-room : balances wrap ≡ true → (n * n + 3 * n ≤ work) × (3 * n ≤ sums)
+  pub work-room : mode ≡ Balanced → (n * n + 3 * n ≤ work) × (3 * n ≤ sums)
 
 both : (a b : Bool) → (a && b) ≡ true → (a ≡ true) × (b ≡ true)
 both true b e = (refl, e)
 both false b e = absurd (false≢true e)
 
-pub roomy-of : (n : ℕ) (wrap : Wrap) (numbers codes placed lines counts rounds free work sums : ℕ) → shape n (passRoom n wrap numbers codes placed lines counts rounds free work sums) ≡ Passed → Roomy n wrap numbers codes placed lines counts rounds free work sums
-unfolding passRoom roomToBalance
-roomy-of n wrap numbers codes placed lines counts rounds free work sums e =
-    let p = shape-passed n (passRoom n wrap numbers codes placed lines counts rounds free work sums) e in
+pub roomy-of : (n : ℕ) (mode : Mode) (numbers codes placed lines counts rounds free work sums : ℕ) → shape n (passRoom n mode numbers codes placed lines counts rounds free work sums) ≡ Passed → Roomy n mode numbers codes placed lines counts rounds free work sums
+unfolding passRoom
+roomy-of n mode numbers codes placed lines counts rounds free work sums e =
+    let p = shape-passed n (passRoom n mode numbers codes placed lines counts rounds free work sums) e in
     let a = both (eqb numbers (14 * n)) _ (p .1) in
     let b = both (eqb codes (8 * n)) _ (a .1) in
     let d = both (leb (8 * n) placed) _ (b .1) in
@@ -63,5 +53,5 @@ roomy-of n wrap numbers codes placed lines counts rounds free work sums e =
       counts-room = leb-true n counts (g .0);
       rounds-room = leb-true n rounds (h .0);
       free-room = leb-true n free (i .0);
-      work-room = λ t. let w = both (leb (n * n + 3 * n) work) (leb (3 * n) sums) (sym (ap (λ (q : Bool). cond q (workRoom n work sums) true) t) ∙ i .1) in (leb-true (n * n + 3 * n) work (w .0), leb-true (3 * n) sums (w .1));
+      work-room = λ t. let w = both (leb (n * n + 3 * n) work) (leb (3 * n) sums) (sym (ap (λ (m : Mode). roomToBreak n m work sums) t) ∙ i .1) in (leb-true (n * n + 3 * n) work (w .0), leb-true (3 * n) sums (w .1));
     }

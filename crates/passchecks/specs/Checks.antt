@@ -1,6 +1,6 @@
 -- What the pass takes and checks (document 01, "Domain and refusal numbers"): the container's numbers, the items' on both axes, and the room of the
 -- lent lists. Assumes nothing.
-use mathlib.Core.Bool.{Bool, true, cond, _&&_}
+use mathlib.Core.Bool.{Bool, true, _&&_}
 use mathlib.Core.List.{List, _∷_, _++_}
 use Prim.Native.Nat.{ℕ, _+_, _*_}
 use lib.Dec.{eqb, leb}
@@ -14,23 +14,26 @@ use Rattle.refusal.specs.declared.Kind.the-variants.{Length}
 use Rattle.flexing.specs.Flex.{outerSum}
 use Rattle.flexing.specs.Items.{itemsOf}
 use Rattle.flexchecks.specs.Input.{inputOf}
-use Rattle.linesize.specs.declared.container.Wrap.{Wrap}
+use Rattle.linesize.specs.declared.container.Mode.{Mode}
+use Rattle.linesize.specs.declared.container.Mode.the-variants.{Single, Greedy, Balanced}
 use Rattle.crosschecks.specs.Numbers.{crossNumbers, acrossNumbersAt}
 use Rattle.container.specs.declared.Container.{Container}
 use Rattle.container.specs.Columns.{mainLists, crossItems, alignSelf, autoSize}
-use Rattle.container.specs.Container.{balances, crossNumbersOf}
+use Rattle.container.specs.Container.{crossNumbersOf}
 
 -- ---- checks 1 and 2
 
--- the cells to work in, where lines are balanced
-unfoldable pub roomToBalance : ℕ → Wrap → ℕ → ℕ → Bool
-roomToBalance n wrap work sums = cond (balances wrap) (workRoom n work sums) true
+-- "balanced breaking also .. cells" to work in
+abbrev pub roomToBreak : ℕ → Mode → ℕ → ℕ → Bool
+roomToBreak n Single work sums = true
+roomToBreak n Greedy work sums = true
+roomToBreak n Balanced work sums = workRoom n work sums
 
 -- of the lengths of all lists: fourteen lists of n numbers and eight of n codes; then "n cells for each answer list", eight by item and two by line in
 -- lists of their own, counts, rounds and free space by line; and the cells to work in
-unfoldable pub passRoom : ℕ → Wrap → ℕ → ℕ → ℕ → ℕ → ℕ → ℕ → ℕ → ℕ → ℕ → Bool
-passRoom n wrap numbers codes placed lines counts rounds free work sums =
-    eqb numbers (14 * n) && (eqb codes (8 * n) && (leb (8 * n) placed && (leb (2 * n) lines && (leb n counts && (leb n rounds && (leb n free && roomToBalance n wrap work sums))))))
+unfoldable pub passRoom : ℕ → Mode → ℕ → ℕ → ℕ → ℕ → ℕ → ℕ → ℕ → ℕ → ℕ → Bool
+passRoom n mode numbers codes placed lines counts rounds free work sums =
+    eqb numbers (14 * n) && (eqb codes (8 * n) && (leb (8 * n) placed && (leb (2 * n) lines && (leb n counts && (leb n rounds && (leb n free && roomToBreak n mode work sums))))))
 
 -- ---- checks 3, 4 and 5
 

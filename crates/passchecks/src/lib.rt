@@ -7,14 +7,15 @@ ghost use Rattle.refusal.specs.Marks.{leastOf, leastUpTo, leastMark, judged};
 ghost use Rattle.flexchecks.specs.Input.{inputOf};
 ghost use Rattle.crosschecks.specs.Numbers.{acrossNumbersAt};
 ghost use Rattle.container.specs.Columns.{mainLists, crossItems, alignSelf, autoSize};
-ghost use Rattle.container.specs.Container.{wrapMode, balances, crossNumbersOf};
-ghost use Rattle.passchecks.specs.Checks.{roomToBalance, passRoom, containerNumbers, passInput};
+ghost use Rattle.container.specs.Container.{breakMode, crossNumbersOf};
+ghost use Rattle.passchecks.specs.Checks.{roomToBreak, passRoom, containerNumbers, passInput};
 ghost use Rattle.container.specs.Stages.{Listed};
 use container::Container;
 use container::columns::code_column;
 use container::columns::column;
 use crosschecks::numbers::CrossNumbers;
-use linesize::container::Wrap;
+use linesize::container::Mode;
+use linesize::container::mode_of;
 use linesize::container::wrap_of;
 use refusal::Kind;
 use refusal::Mark;
@@ -27,33 +28,22 @@ use refusal::shapes::is_alike;
 use single::mark_code;
 use single::mark_given;
 
-// Whether the lines are balanced, and so need cells to work in.
-fn is_balanced(wrap: Wrap) -> bool
-    ensures { λ r. ⌜ r ≡ balances wrap ⌝ }
-{
-    match wrap {
-        Wrap::NoWrap => false,
-        Wrap::Wrap => false,
-        Wrap::WrapReverse => false,
-        Wrap::Balance => true,
-        Wrap::BalanceReverse => true,
-    }
-}
-
-fn has_room_to_balance(n: usize, wrap: Wrap, work: usize, sums: usize) -> bool
+// Only balanced breaking needs cells to work in.
+fn has_room_to_break(n: usize, mode: Mode, work: usize, sums: usize) -> bool
     requires { ⌜ n ≤ 1024 ⌝ }
-    ensures { λ r. ⌜ r ≡ roomToBalance n wrap work sums ⌝ }
+    ensures { λ r. ⌜ r ≡ roomToBreak n mode work sums ⌝ }
 {
-    if is_balanced(wrap) {
-        return has_work_room(n, work, sums);
+    match mode {
+        Mode::Single => true,
+        Mode::Greedy => true,
+        Mode::Balanced => has_work_room(n, work, sums),
     }
-    true
 }
 
 // Checks 1 and 2, from the lengths of the lists. More than 1,024 items are refused whatever the room, so their square is never taken.
 fn check_lists(
     n: usize,
-    wrap: Wrap,
+    mode: Mode,
     numbers: usize,
     codes: usize,
     placed: usize,
@@ -64,12 +54,12 @@ fn check_lists(
     work: usize,
     sums: usize,
 ) -> Verdict
-    ensures { λ r. ⌜ r ≡ shape n (passRoom n wrap numbers codes placed lines counts rounds free work sums) ⌝ }
+    ensures { λ r. ⌜ r ≡ shape n (passRoom n mode numbers codes placed lines counts rounds free work sums) ⌝ }
 {
     if 1024 < n {
         return Verdict::Refused(Refusal::TooManyItems);
     }
-    let room = has_room(n, free, has_room_to_balance(n, wrap, work, sums));
+    let room = has_room(n, free, has_room_to_break(n, mode, work, sums));
     let room = has_room(n, counts, has_room(n, rounds, room));
     let room = has_room(8 * n, placed, has_room(2 * n, lines, room));
     let even = is_alike(numbers, 14 * n, is_alike(codes, 8 * n, room));
@@ -170,11 +160,11 @@ pub fn check_pass<'a>(
     work: usize,
     sums: usize,
 ) -> Verdict
-    ensures { λ r. ⌜ r ≡ then (shape n (passRoom n (wrapMode c) (length (now (numbers .entry))) (length (now (codes .entry))) placed lines counts rounds free work sums)) (judged (leastMark (passInput c n (now (numbers .entry)) (now (codes .entry))))) ⌝ }
+    ensures { λ r. ⌜ r ≡ then (shape n (passRoom n (breakMode c) (length (now (numbers .entry))) (length (now (codes .entry))) placed lines counts rounds free work sums)) (judged (leastMark (passInput c n (now (numbers .entry)) (now (codes .entry))))) ⌝ }
 {
     let v = check_lists(
         n,
-        wrap_of(c.wrap),
+        mode_of(wrap_of(c.wrap)),
         numbers.len(),
         codes.len(),
         placed,

@@ -11,7 +11,7 @@ use lib.Seq.{take-all}
 use lib.Ieee.{Float}
 use borrow.Author.Tests.{lt-ltb}
 use Rattle.container.specs.declared.Container.{Container}
-use Rattle.container.specs.Container.{wrapMode}
+use Rattle.container.specs.Container.{breakMode}
 use Rattle.refusal.specs.Domain.{orElse, then, checked, summed}
 use Rattle.refusal.specs.declared.Refusal.{Refusal}
 use Rattle.refusal.specs.declared.Refusal.the-variants.{TooManyItems, TooLittleRoom}
@@ -35,7 +35,7 @@ many c n x codes room h = ap (λ (t : Bool). then (orElse t (verdict.Refused Too
 
 too-many : (c : Container) (n : ℕ) (x : List Float) (codes : List ℕ) (b : Lent) → 1024 < n → verdictOf c n x codes b ≡ verdict.Refused TooManyItems
 too-many c n x codes b h =
-    many c n x codes (passRoom n (wrapMode c) (length x) (length codes) (length (b .placed)) (length (b .lines)) (length (b .counts)) (length (b .rounds)) (length (b .free)) (length (b .work)) (length (b .sums))) h
+    many c n x codes (passRoom n (breakMode c) (length x) (length codes) (length (b .placed)) (length (b .lines)) (length (b .counts)) (length (b .rounds)) (length (b .free)) (length (b .work)) (length (b .sums))) h
 
 isPassed : Verdict → Bool
 isPassed verdict.Passed = true

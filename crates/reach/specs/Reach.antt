@@ -45,7 +45,7 @@ abbrev pub Each : {A : Type 0} → (A → Type 0) → List A → Type 0
 Each P [] = Unit {0}
 Each P (a ∷ l) = P a × Each P l
 
--- an accepted line: at most 1,024 items, and "the sum over items of (|outer main size| + gap), hypothetical where the call flexes, is at most 16,777,216 sixty-fourths"
+-- an accepted line: at most 1,024 items, and the "sum over items of (|outer main size| + gap), hypothetical where the call flexes, is at most 16,777,216 sixty-fourths"
 pub record IsLine (inner gap : Float) (items : List Item) : Type 0 where
   pub inner-is : IsSize inner
   pub gap-is : IsSize gap

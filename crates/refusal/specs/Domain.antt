@@ -21,7 +21,7 @@ use Rattle.refusal.specs.declared.Answer.the-variants as answer
 
 -- ---- the numbers
 
--- A number that a call takes: a float of some kind, or a code that is one of 0 to `most`.
+-- A number that a call takes: a float of some kind; or, as `code most c`, the code c, which is to be one of 0 to `most`.
 pub data Number : Type 0 where
   float : Kind → Float → Number
   code : ℕ → ℕ → Number
@@ -116,7 +116,7 @@ abbrev pub asAnswer : Verdict → ℕ → ℕ → Answer
 asAnswer Passed lines rounds = Done lines rounds
 asAnswer (verdict.Refused why) lines rounds = answer.Refused why
 
--- where an answer points: nowhere, at the container, or at an item or line
+-- where an answer points: nowhere, at the container, or at an item or line (of answer 7: a byte)
 pub data Where : Type 0 where
   nowhere : Where
   at-container : Where
@@ -126,7 +126,7 @@ abbrev pub whereOf : Place → Where
 whereOf Container = at-container
 whereOf (At i) = at-item i
 
--- the paper's four values
+-- the four values of an answer in document 01, which calls itself "this paper"
 pub record Paper : Type 0 where
   pub number : ℕ
   pub place : Where

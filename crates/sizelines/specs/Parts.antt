@@ -7,7 +7,7 @@ use Rattle.linesize.specs.CrossSize.{Items, count}
 use Rattle.linesize.specs.Parts.{OneLength}
 use Rattle.bylines.specs.Parts.{Division}
 
--- what the pass's checks show: the lines have the items of the lists, and there is room for the lines
+-- what the checks and the breaking before it have shown: the lines have the items of the lists, and there is room for the lines
 pub record SizesReady (counts : List ℕ) (ls : Items) (sizes : List Float) : Type 0 where
   pub even : OneLength ls
   pub division : Division counts (count ls)

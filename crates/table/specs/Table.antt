@@ -1,5 +1,5 @@
--- P1 TO P15 of document 01, one table: a row has a case's inputs and then the paper's answers, all in whole pixels, and `Holds` is what it claims of
--- the definitions that the contracts cite: they give these answers and no others. `table-holds` of proofs/Table.antt is the proof. Assumes nothing.
+-- P1 TO P15 of document 01, one table: a row has a case's inputs and then document 01's answers, lengths in whole pixels (the rounds of P12 and P13 are
+-- ours), and `Holds` is what it claims of the definitions that the contracts cite: they give these answers and no others. `table-holds` of proofs/Table.antt is the proof. Assumes nothing.
 use mathlib.Core.Path.{_≡_}
 use mathlib.Core.Bool.{false}
 use mathlib.Core.List.{List, [], _∷_, _++_, map}

@@ -21,8 +21,8 @@ use Rattle.balance.specs.Calls.{Lent}
 use Rattle.rule.specs.Rule.{floored, Valid}
 use Rattle.rule.proofs.Totals.{sum-first}
 use Rattle.rule.proofs.Unique.{balanced-one}
-use Rattle.wrapping.specs.declared.Mode.{Mode}
-use Rattle.wrapping.specs.declared.Mode.the-variants.{Single, Greedy, Balanced}
+use Rattle.linesize.specs.declared.container.Mode.{Mode}
+use Rattle.linesize.specs.declared.container.Mode.the-variants.{Single, Greedy, Balanced}
 use Rattle.wrapping.specs.Wrapping.{oneLine, Lines, listed, Wrapped}
 
 -- ---- counts
@@ -112,14 +112,14 @@ module _ (limit : AvailableSpace) (gap : Float) (minimum : ℕ) (sizes : List Fl
       (valid-total L G (map floored (units sizes)) lines (b .valid) ∙ length-map (units sizes) floored ∙ length-map sizes sixtyFourths)
 
   -- and so do the counts that a call leaves, read back as many as it answers
-  pub wrapped-counts : (mode : Mode) (b : Lent) (r : ℕ) (a : Lent) → (w : Wrapped mode limit gap minimum sizes b r a) → take r (a .counts) ≡ w .lines
-  wrapped-counts mode b r a w =
+  pub wrapped-counts : (mode : Mode) {b a : Lent} {r : ℕ} (w : Wrapped mode limit gap minimum sizes b r a) → take r (a .counts) ≡ w .lines
+  wrapped-counts mode {b} {a} w =
       ap (λ (k : ℕ). take k (a .counts)) (w .number)
       ∙ ap (take (length (w .lines))) (ap (λ (l : Lent). l .counts) (w .cells) ∙ counts-listed mode (length sizes) (w .lines) b)
       ∙ read-back (length sizes) (w .lines) (b .counts)
 
-  pub wrapped-divides : (mode : Mode) (b : Lent) (r : ℕ) (a : Lent) → Wrapped mode limit gap minimum sizes b r a → Divides (length sizes) (take r (a .counts))
-  wrapped-divides mode b r a w = subst (Divides (length sizes)) (sym (wrapped-counts mode b r a w)) (lines-divide mode (w .lines) (w .lines-are))
+  pub wrapped-divides : (mode : Mode) {b a : Lent} {r : ℕ} → Wrapped mode limit gap minimum sizes b r a → Divides (length sizes) (take r (a .counts))
+  wrapped-divides mode w = subst (Divides (length sizes)) (sym (wrapped-counts mode w)) (lines-divide mode (w .lines) (w .lines-are))
 
   -- ANY TWO LINES OF A MODE ARE ONE
   pub lines-one : (mode : Mode) (c d : List ℕ) → Lines mode limit gap minimum sizes c → Lines mode limit gap minimum sizes d → c ≡ d

@@ -11,8 +11,8 @@ use Rattle.breaking.specs.Calls.{units}
 use Rattle.breaking.specs.Steps.{Listed}
 use Rattle.balance.specs.Calls.{Lent, lent, Divides}
 use Rattle.balance.specs.Parts.{Roomy}
-use Rattle.wrapping.specs.declared.Mode.{Mode}
-use Rattle.wrapping.specs.declared.Mode.the-variants.{Single, Greedy, Balanced}
+use Rattle.linesize.specs.declared.container.Mode.{Mode}
+use Rattle.linesize.specs.declared.container.Mode.the-variants.{Single, Greedy, Balanced}
 use Rattle.wrapping.specs.Wrapping.{oneLine, Wrapped}
 use Rattle.wrapping.specs.Parts.{Room}
 

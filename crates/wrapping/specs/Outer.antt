@@ -1,4 +1,5 @@
--- What the whole pass breaks: "outer main size .., hypothetical where the call flexes" (document 01, "Domain and refusal numbers"). Assumes nothing.
+-- What the whole pass breaks: the items' hypothetical outer main sizes, as CSS-FLEX 9.3 says and the Rust does; document 01 takes the same for check 6.
+-- Assumes nothing.
 use mathlib.Core.List.{List, map}
 use lib.Ieee.{Float}
 use Rattle.flexing.specs.declared.Item.{Item}

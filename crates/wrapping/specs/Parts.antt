@@ -3,8 +3,8 @@ use Prim.Native.Nat.{ℕ, _≤_}
 use lib.ListN.{length}
 use Rattle.balance.specs.Calls.{Lent}
 use Rattle.balance.specs.Parts.{Roomy}
-use Rattle.wrapping.specs.declared.Mode.{Mode}
-use Rattle.wrapping.specs.declared.Mode.the-variants.{Single, Greedy, Balanced}
+use Rattle.linesize.specs.declared.container.Mode.{Mode}
+use Rattle.linesize.specs.declared.container.Mode.the-variants.{Single, Greedy, Balanced}
 
 -- n cells for the counts, and where lines are balanced the work cells too
 abbrev pub Room : Mode → ℕ → Lent → Type 0

@@ -10,18 +10,8 @@ use Rattle.breaking.specs.Breaking.{limitOf, greedy}
 use Rattle.breaking.specs.Calls.{units, written}
 use Rattle.rule.specs.Rule as rule
 use Rattle.balance.specs.Calls.{Lent, lent, worked}
-use Rattle.linesize.specs.declared.container.Wrap.{Wrap}
-use Rattle.linesize.specs.declared.container.Wrap.the-variants as wrap
-use Rattle.wrapping.specs.declared.Mode.{Mode}
-use Rattle.wrapping.specs.declared.Mode.the-variants.{Single, Greedy, Balanced}
-
--- how a container breaks its lines; reversed wrapping breaks as wrapping does
-abbrev pub modeOf : Wrap → Mode
-modeOf wrap.NoWrap = Single
-modeOf wrap.Wrap = Greedy
-modeOf wrap.WrapReverse = Greedy
-modeOf wrap.Balance = Balanced
-modeOf wrap.BalanceReverse = Balanced
+use Rattle.linesize.specs.declared.container.Mode.{Mode}
+use Rattle.linesize.specs.declared.container.Mode.the-variants.{Single, Greedy, Balanced}
 
 -- "n = 0 gives no lines"; "a single-line container is one line whatever the limit"
 abbrev pub oneLine : ℕ → List ℕ

@@ -17,13 +17,7 @@ use breaklimit::AvailableSpace;
 use flexing::sizes::hypothetical_size;
 use flexing::sizes::outer_size;
 use itemtable::pick;
-
-// Whether a container's items make one line (nowrap), greedy lines (wrap) or balanced lines (balance).
-pub enum Mode {
-    Single,
-    Greedy,
-    Balanced,
-}
+use linesize::container::Mode;
 
 // The sizes that breaking takes: the hypothetical outer main sizes of the table's first n items. No entry point.
 pub fn outer_sizes(table: &[f32], n: usize, sizes: &mut [f32])

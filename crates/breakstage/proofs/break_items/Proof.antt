@@ -4,10 +4,10 @@ use lib.ListN.{length, take}
 use denote.Ref.{now}
 use Rattle.itemtable.specs.Table.{itemsIn}
 use Rattle.balance.specs.Calls as balance
-use Rattle.wrapping.specs.Wrapping.{modeOf}
 use Rattle.wrapping.specs.Outer.{outerSizes}
 use Rattle.wrapping.proofs.Given.{sizes-long, sizes-lent}
-use Rattle.container.specs.Container.{wrapMode}
+use Rattle.linesize.specs.Container.{modeOf}
+use Rattle.container.specs.Container.{breakMode}
 use Rattle.breakstage.proofs.BreakLaws.{breaks-as, broken-as}
 use borrow.Author.Needs.{needs}
 use Rattle.breakstage.proofs.break_items.Statement.{statement}
@@ -18,7 +18,7 @@ sizes : (c : tie.After-outer-sizes) → let a = c .before .before .before .befor
 sizes c = let a = c .before .before .before .before .before .before .args in ap (take (a .n)) (c .outer-sizes .ensures) ∙ sizes-lent (now (a .table)) (a .n) _
 
 -- the mode, read from the container's code
-mode : (c : tie.After-mode-of) → c .mode-of .result ≡ modeOf (wrapMode (c .before .before .before .before .before .before .before .before .before .args .c))
+mode : (c : tie.After-mode-of) → c .mode-of .result ≡ breakMode (c .before .before .before .before .before .before .before .before .before .args .c)
 mode c = c .mode-of .ensures ∙ ap modeOf (c .before .wrap-of .ensures)
 
 slice-aggregate-outer-sizes : tie.Need-slice-aggregate-outer-sizes

@@ -33,7 +33,7 @@ limit-to-c-requires c κs = search needs
 abbrev with : Asked → AvailableSpace → Bound → Bound → Query
 with a s l m = record { «known_is_definite» = flag (a .known); «main_is_definite» = flag (a .main); «is_row» = flag (a .row); available = s; minimum = l; maximum = m }
 
-made : (a : Asked) (s : AvailableSpace) (l m : Bound) → s ≡ spaceOf (a .kind) (a .available) → l ≡ boundOf (a .low) (a .minimum) → m ≡ boundOf (a .high) (a .maximum) → with a s l m ≡ queryOf a
+made : (a : Asked) (s : AvailableSpace) (l m : Bound) → s ≡ spaceOf (a .kind) (a .available) → l ≡ boundOf (a .«has_minimum») (a .minimum) → m ≡ boundOf (a .«has_maximum») (a .maximum) → with a s l m ≡ queryOf a
 made a s l m e f g =
     ap (λ (x : AvailableSpace). with a x l m) e
     ∙ ap₂ (λ (x y : Bound). with a (spaceOf (a .kind) (a .available)) x y) f g
@@ -44,7 +44,7 @@ answered a q v r e f g = g ∙ ap (λ (w : Verdict). cLimit (limitFrom w q)) f �
 returns : tie.Need-returns
 returns c =
     let a = c .before .before .before .before .before .before .args in
-    let A : Asked = record { known = a .known; main = a .main; row = a .row; kind = a .kind; available = a .available; low = a .low; minimum = a .minimum; high = a .high; maximum = a .maximum } in
+    let A : Asked = record { known = a .known; main = a .main; row = a .row; kind = a .kind; available = a .available; «has_minimum» = a .has-minimum; minimum = a .minimum; «has_maximum» = a .has-maximum; maximum = a .maximum } in
     let v = c .before .check-limit .ensures (askedCodes A) (c .before .before .before .before .before .mark-codes .ensures (a .available) (a .minimum) (a .maximum)) in
     let s = c .before .before .before .before .space-of in
     let l = c .before .before .before .bound-of in

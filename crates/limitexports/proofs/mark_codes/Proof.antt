@@ -63,7 +63,7 @@ returns c x y z =
     ∙ ap₂ min
     (c .before .before .before .before .before .before .least2 .ensures ∙ ap₂ min (c .before .before .before .before .before .before .before .before .before .before .mark-code .ensures) (c .before .before .before .before .before .before .before .least .ensures ∙ ap₂ min (c .before .before .before .before .before .before .before .before .before .mark-code2 .ensures) (c .before .before .before .before .before .before .before .before .mark-code3 .ensures)))
     (c .before .least4 .ensures ∙ ap₂ min (c .before .before .before .before .before .mark-code4 .ensures) (c .before .before .least3 .ensures ∙ ap₂ min (c .before .before .before .before .mark-code5 .ensures) (c .before .before .before .mark-code6 .ensures)))
-    ∙ paired (mark (code 1 (a .known)) 0) (mark (code 1 (a .main)) 0) (mark (code 1 (a .row)) 0) (mark (code 2 (a .kind)) 0) (mark (code 1 (a .low)) 0) (mark (code 1 (a .high)) 0) (mark-most (code 1 (a .high)) 0 zero-le)
+    ∙ paired (mark (code 1 (a .known)) 0) (mark (code 1 (a .main)) 0) (mark (code 1 (a .row)) 0) (mark (code 2 (a .kind)) 0) (mark (code 1 (a .has-minimum)) 0) (mark (code 1 (a .has-maximum)) 0) (mark-most (code 1 (a .has-maximum)) 0 zero-le)
 
 pub mark-codes-spec : {M : Type 1} → statement M
 mark-codes-spec =

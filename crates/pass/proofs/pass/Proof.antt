@@ -2,7 +2,7 @@
 use mathlib.Core.Path.{refl, sym, _∙_}
 use lib.ListN.{length}
 use denote.Ref.{now}
-use Rattle.container.specs.Container.{wrapMode}
+use Rattle.container.specs.Container.{breakMode}
 use Rattle.passchecks.specs.Checks.{passRoom}
 use Rattle.laying.specs.Laid.{lent}
 use Rattle.pass.proofs.AcceptLaws.{refused-so, passed-so, sound-so, answered-as}
@@ -21,12 +21,12 @@ enum-told c = search needs
 
 pass-checked-requires : tie.Need-pass-checked-requires
 pass-checked-requires c κs = let a = c .before .before .before .before .before .before .before .before .before .before .before .before .before .before .before .before .before .before .args in
-    let p = sound-so (a .c) (a .n) (now (a .numbers)) (now (a .codes)) (passRoom (a .n) (wrapMode (a .c)) (length (now (a .numbers))) (length (now (a .codes))) (length (now (a .placed))) (length (now (a .lines))) (length (now (a .counts))) (length (now (a .rounds))) (length (now (a .free))) (length (now (a .work))) (length (now (a .sums)))) (sym (c .before .before .before .before .before .before .before .before .before .check-pass .ensures) ∙ c .before .before .before .before .before .before .before .enum-told .given .1) in
+    let p = sound-so (a .c) (a .n) (now (a .numbers)) (now (a .codes)) (passRoom (a .n) (breakMode (a .c)) (length (now (a .numbers))) (length (now (a .codes))) (length (now (a .placed))) (length (now (a .lines))) (length (now (a .counts))) (length (now (a .rounds))) (length (now (a .free))) (length (now (a .work))) (length (now (a .sums)))) (sym (c .before .before .before .before .before .before .before .before .before .check-pass .ensures) ∙ c .before .before .before .before .before .before .before .enum-told .given .1) in
     record { room = p .0; sound = p .1 }
 
 returns : tie.Need-returns
 returns c = let a = c .before .before .before .before .before .before .before .before .before .before .before .before .args in
-    (refused-so (a .c) (a .n) (now (a .numbers)) (now (a .codes)) (passRoom (a .n) (wrapMode (a .c)) (length (now (a .numbers))) (length (now (a .codes))) (length (now (a .placed))) (length (now (a .lines))) (length (now (a .counts))) (length (now (a .rounds))) (length (now (a .free))) (length (now (a .work))) (length (now (a .sums)))) _ (sym (c .before .before .before .check-pass .ensures) ∙ c .before .v .given .1), refl)
+    (refused-so (a .c) (a .n) (now (a .numbers)) (now (a .codes)) (passRoom (a .n) (breakMode (a .c)) (length (now (a .numbers))) (length (now (a .codes))) (length (now (a .placed))) (length (now (a .lines))) (length (now (a .counts))) (length (now (a .rounds))) (length (now (a .free))) (length (now (a .work))) (length (now (a .sums)))) _ (sym (c .before .before .before .check-pass .ensures) ∙ c .before .v .given .1), refl)
 
 same-length : tie.Need-same-length
 same-length c = c .before .before .before .before .before .before .before .before .before .before .before .before .before .pass-checked .kept .1 .1 .1 .1 .0
@@ -53,7 +53,7 @@ returns-2 : tie.Need-returns-2
 returns-2 c = let a = c .before .before .before .before .before .before .before .before .before .before .before .before .before .before .before .before .before .before .before .before .before .before .before .before .before .before .before .before .before .before .before .before .args in
     let f = c .before .before .before .before .before .before .before .before .before .before .before .before .before .pass-checked in
     answered-as (a .c) (a .n) (now (a .numbers)) (now (a .codes)) (lent (now (a .placed)) (now (a .lines)) (now (a .counts)) (now (a .rounds)) (now (a .free)) (now (a .work)) (now (a .sums))) (f .result) (lent (f .last .1 .1 .1 .1 .0) (f .last .1 .1 .1 .1 .1 .0) (f .last .1 .1 .1 .1 .1 .1 .0) (f .last .1 .1 .1 .1 .1 .1 .1 .0) (f .last .1 .1 .1 .1 .1 .1 .1 .1 .0) (f .last .1 .1 .1 .1 .1 .1 .1 .1 .1 .0) (f .last .1 .1 .1 .1 .1 .1 .1 .1 .1 .1 .0))
-    (sym (passed-so (a .c) (a .n) (now (a .numbers)) (now (a .codes)) (passRoom (a .n) (wrapMode (a .c)) (length (now (a .numbers))) (length (now (a .codes))) (length (now (a .placed))) (length (now (a .lines))) (length (now (a .counts))) (length (now (a .rounds))) (length (now (a .free))) (length (now (a .work))) (length (now (a .sums)))) (sym (c .before .before .before .before .before .before .before .before .before .before .before .before .before .before .before .before .before .before .before .before .before .before .before .check-pass .ensures) ∙ c .before .before .before .before .before .before .before .before .before .before .before .before .before .before .before .before .before .before .before .before .before .enum-told .given .1))) (f .ensures)
+    (sym (passed-so (a .c) (a .n) (now (a .numbers)) (now (a .codes)) (passRoom (a .n) (breakMode (a .c)) (length (now (a .numbers))) (length (now (a .codes))) (length (now (a .placed))) (length (now (a .lines))) (length (now (a .counts))) (length (now (a .rounds))) (length (now (a .free))) (length (now (a .work))) (length (now (a .sums)))) (sym (c .before .before .before .before .before .before .before .before .before .before .before .before .before .before .before .before .before .before .before .before .before .before .before .check-pass .ensures) ∙ c .before .before .before .before .before .before .before .before .before .before .before .before .before .before .before .before .before .before .before .before .before .enum-told .given .1))) (f .ensures)
 
 pub pass-spec : {M : Type 1} → statement M
 pass-spec =

@@ -11,8 +11,8 @@ use Rattle.passchecks.proofs.check_lists.Tie as tie
 returns : tie.Need-returns
 returns c = simp (lt-ltb _ _ (c .if1 .taken))
 
-has-room-to-balance-requires : tie.Need-has-room-to-balance-requires
-has-room-to-balance-requires c κs = search needs
+has-room-to-break-requires : tie.Need-has-room-to-break-requires
+has-room-to-break-requires c κs = search needs
 
 has-room-requires : tie.Need-has-room-requires
 has-room-requires c κs = search needs
@@ -53,15 +53,15 @@ check-shape-requires c κs = search needs
 returns-2 : tie.Need-returns-2
 returns-2 c =
     let a = c .before .before .before .before .before .before .before .before .before .before .args in
-    c .check-shape .ensures ∙ ap (λ (b : Bool). shape (a .n) b) (room-is (a .n) (a .wrap) (a .numbers) (a .codes) (a .placed) (a .lines) (a .counts) (a .rounds) (a .free) (a .work) (a .sums)
-    (c .before .before .before .before .before .before .before .before .has-room-to-balance .ensures) (c .before .before .before .before .before .before .before .has-room .ensures) (c .before .before .before .before .before .before .has-room2 .ensures) (c .before .before .before .before .before .has-room3 .ensures) (c .before .before .before .before .has-room4 .ensures) (c .before .before .before .has-room5 .ensures) (c .before .before .is-alike .ensures) (c .before .is-alike2 .ensures))
+    c .check-shape .ensures ∙ ap (λ (b : Bool). shape (a .n) b) (room-is (a .n) (a .mode) (a .numbers) (a .codes) (a .placed) (a .lines) (a .counts) (a .rounds) (a .free) (a .work) (a .sums)
+    (c .before .before .before .before .before .before .before .before .has-room-to-break .ensures) (c .before .before .before .before .before .before .before .has-room .ensures) (c .before .before .before .before .before .before .has-room2 .ensures) (c .before .before .before .before .before .has-room3 .ensures) (c .before .before .before .before .has-room4 .ensures) (c .before .before .before .has-room5 .ensures) (c .before .before .is-alike .ensures) (c .before .is-alike2 .ensures))
 
 pub check-lists-spec : {M : Type 1} → statement M
 check-lists-spec =
     tie.close
     (tie.spec
     returns
-    has-room-to-balance-requires
+    has-room-to-break-requires
     has-room-requires
     has-room-requires-2
     has-room-requires-3
