@@ -12,7 +12,8 @@ use Rattle.refusal.specs.declared.Verdict.{Verdict}
 use Rattle.refusal.specs.declared.Verdict.the-variants.{Passed, Refused}
 use Rattle.refusal.specs.declared.Answer.{Answer}
 use Rattle.refusal.specs.declared.Answer.the-variants.{Done}
-use Rattle.refusal.specs.Domain.{float, code, checked, then, asAnswer}
+use Rattle.refusal.specs.Domain.{float, code, checked, then}
+use Rattle.refusal.specs.Marks.{asAnswer}
 use Rattle.refusal.specs.Marks.{mark, leastOf, leastUpTo, judged}
 use Rattle.refusal.specs.Shapes.{shapeOf}
 use Rattle.refusal.proofs.Marked.{container-two, judged-is, shaped}

@@ -113,9 +113,9 @@ verdict-is codes limit gap sizes b room h = go (lt-or-ge 1024 (length sizes))
     go (inr p) = ap (breakingVerdict codes limit gap sizes) (h p)
     go (inl p) = simp (lt-ltb 1024 (length sizes) p)
 
-pub given : (limit : AvailableSpace) (gap : Float) (sizes : List Float) (b : Lent) → balancedVerdict limit gap sizes b ≡ Passed → Breakable limit gap sizes × Roomy (length sizes) b
-given limit gap sizes b e =
-    let p = breakable [] limit gap sizes (hasRoom (length sizes) b) e in
+pub given : (codes : List Number) (limit : AvailableSpace) (gap : Float) (sizes : List Float) (b : Lent) → balancedVerdict codes limit gap sizes b ≡ Passed → Breakable limit gap sizes × Roomy (length sizes) b
+given codes limit gap sizes b e =
+    let p = breakable codes limit gap sizes (hasRoom (length sizes) b) e in
     (p .0, room-of (length sizes) b (subst T (sym (p .1)) tt))
 
 -- ---- the contract, by the verdict
@@ -136,28 +136,29 @@ unfolding why-of
 same-why p q = ap why-of (sym p ∙ q)
 
 module _ (limit : AvailableSpace) (gap : Float) (minimum : ℕ) (sizes : List Float) (b : Lent) where
-  pub call-refused : (why : Refusal) → balancedVerdict limit gap sizes b ≡ verdict.Refused why → BalancedCall limit gap minimum sizes b (answer.Refused why) b
-  call-refused why e = record {
-    refused = λ other f. (ap answer.Refused (same-why e f), refl);
-    accepted = λ f. absurd (not-both f e);
-  }
-
-  pub call-accepted : (lines : ℕ) (a : Lent) → balancedVerdict limit gap sizes b ≡ Passed → Divides limit gap minimum sizes b lines a → BalancedCall limit gap minimum sizes b (Done lines 0) a
-  call-accepted lines a e D = record {
-    refused = λ why f. absurd (not-both e f);
-    accepted = λ _. (lines, refl, D);
-  }
-
   pub divides-one : (k j : ℕ) (a c : Lent) → Divides limit gap minimum sizes b k a → Divides limit gap minimum sizes b j c → (k ≡ j) × (a ≡ c)
   divides-one k j a c p q =
       let d : p .division ≡ q .division = balanced-one (limitOf limit) (sixtyFourths gap) (units sizes) minimum (p .division) (q .division) (p .balanced) (q .balanced) in
       (p .lines-are ∙ ap length d ∙ sym (q .lines-are), p .cells ∙ ap (λ (l : List ℕ). worked (length sizes) l b) d ∙ sym (q .cells))
 
+module _ (codes : List Number) (limit : AvailableSpace) (gap : Float) (minimum : ℕ) (sizes : List Float) (b : Lent) where
+  pub call-refused : (why : Refusal) → balancedVerdict codes limit gap sizes b ≡ verdict.Refused why → BalancedCall codes limit gap minimum sizes b (answer.Refused why) b
+  call-refused why e = record {
+    refused = λ other f. (ap answer.Refused (same-why e f), refl);
+    accepted = λ f. absurd (not-both f e);
+  }
+
+  pub call-accepted : (lines : ℕ) (a : Lent) → balancedVerdict codes limit gap sizes b ≡ Passed → Divides limit gap minimum sizes b lines a → BalancedCall codes limit gap minimum sizes b (Done lines 0) a
+  call-accepted lines a e D = record {
+    refused = λ why f. absurd (not-both e f);
+    accepted = λ _. (lines, refl, D);
+  }
+
   -- ANY TWO RESULTS THAT THE CONTRACT ALLOWS ARE EQUAL
-  pub no-choice : (r s : Answer) (a c : Lent) → BalancedCall limit gap minimum sizes b r a → BalancedCall limit gap minimum sizes b s c → (r ≡ s) × (a ≡ c)
-  no-choice r s a c p q = go (balancedVerdict limit gap sizes b) refl
+  pub no-choice : (r s : Answer) (a c : Lent) → BalancedCall codes limit gap minimum sizes b r a → BalancedCall codes limit gap minimum sizes b s c → (r ≡ s) × (a ≡ c)
+  no-choice r s a c p q = go (balancedVerdict codes limit gap sizes b) refl
     where
-      go : (v : Verdict) → balancedVerdict limit gap sizes b ≡ v → (r ≡ s) × (a ≡ c)
+      go : (v : Verdict) → balancedVerdict codes limit gap sizes b ≡ v → (r ≡ s) × (a ≡ c)
       go (verdict.Refused why) e =
           let x = p .refused why e in
           let y = q .refused why e in
@@ -165,5 +166,5 @@ module _ (limit : AvailableSpace) (gap : Float) (minimum : ℕ) (sizes : List Fl
       go Passed e =
           let x = p .accepted e in
           let y = q .accepted e in
-          let o = divides-one (x .0) (y .0) a c (x .2) (y .2) in
+          let o = divides-one limit gap minimum sizes b (x .0) (y .0) a c (x .2) (y .2) in
           (x .1 ∙ ap (λ (k : ℕ). Done k 0) (o .0) ∙ sym (y .1), o .1)

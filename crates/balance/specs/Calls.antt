@@ -1,12 +1,13 @@
 -- The balanced call: what it takes, checks and answers (document 01, "Domain and refusal numbers" and "Breaking"). Assumes nothing.
 use mathlib.Core.Path.{_≡_}
 use mathlib.Core.Bool.{Bool, _&&_}
-use mathlib.Core.List.{List, [], _++_}
+use mathlib.Core.List.{List, _++_}
 use Prim.Native.Nat.{ℕ, _+_, _*_}
 use lib.Dec.{leb}
 use lib.ListN.{length, drop, replicate}
 use lib.Ieee.{Float, binary64, ofBits}
 use Rattle.grid.specs.Grid.{sixtyFourths}
+use Rattle.refusal.specs.Domain.{Number}
 use Rattle.refusal.specs.Shapes.{workRoom}
 use Rattle.refusal.specs.declared.Refusal.{Refusal}
 use Rattle.refusal.specs.declared.Verdict.{Verdict}
@@ -36,8 +37,8 @@ roomFor n counts work sums = leb n counts && workRoom n work sums
 abbrev pub hasRoom : ℕ → Lent → Bool
 hasRoom n l = roomFor n (length (l .counts)) (length (l .work)) (length (l .sums))
 
-abbrev pub balancedVerdict : AvailableSpace → Float → List Float → Lent → Verdict
-balancedVerdict limit gap sizes before = breakingVerdict [] limit gap sizes (hasRoom (length sizes) before)
+abbrev pub balancedVerdict : List Number → AvailableSpace → Float → List Float → Lent → Verdict
+balancedVerdict codes limit gap sizes before = breakingVerdict codes limit gap sizes (hasRoom (length sizes) before)
 
 -- "After acceptance those work cells are zero, and all cells past the named ones are unchanged."
 abbrev pub zeroed : ℕ → List ℕ → List ℕ
@@ -56,7 +57,8 @@ pub record Divides (limit : AvailableSpace) (gap : Float) (minimum : ℕ) (sizes
   pub lines-are : lines ≡ length division
   pub cells : after ≡ worked (length sizes) division before
 
--- THE CALL: it refuses by the checks and changes nothing, or it answers with the number of lines and leaves their counts
-pub record BalancedCall (limit : AvailableSpace) (gap : Float) (minimum : ℕ) (sizes : List Float) (before : Lent) (r : Answer) (after : Lent) : Type 0 where
-  pub refused : (why : Refusal) → balancedVerdict limit gap sizes before ≡ verdict.Refused why → (r ≡ answer.Refused why) × (after ≡ before)
-  pub accepted : balancedVerdict limit gap sizes before ≡ Passed → (lines : ℕ) × (r ≡ Done lines 0) × Divides limit gap minimum sizes before lines after
+-- THE CALL: it refuses by the checks and changes nothing, or it answers with the number of lines and leaves their counts. The codes are those that came
+-- before the limit
+pub record BalancedCall (codes : List Number) (limit : AvailableSpace) (gap : Float) (minimum : ℕ) (sizes : List Float) (before : Lent) (r : Answer) (after : Lent) : Type 0 where
+  pub refused : (why : Refusal) → balancedVerdict codes limit gap sizes before ≡ verdict.Refused why → (r ≡ answer.Refused why) × (after ≡ before)
+  pub accepted : balancedVerdict codes limit gap sizes before ≡ Passed → (lines : ℕ) × (r ≡ Done lines 0) × Divides limit gap minimum sizes before lines after

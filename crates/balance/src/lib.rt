@@ -1,5 +1,6 @@
 // Balanced breaking (document 01, "Breaking"): the call, and what lends the search exactly the cells that it takes.
 ghost use mathlib.Core.Path.{_≡_};
+ghost use mathlib.Core.List.{[]};
 ghost use Prim.Native.Nat.{_≤_};
 ghost use lib.ListN.{length};
 ghost use lib.Ieee.{binary64, ofBits};
@@ -192,7 +193,7 @@ pub fn balanced(
     work: &mut [u32],
     sums: &mut [f64],
 ) -> Answer
-    ensures { λ r. ⌜ BalancedCall limit gap minimum (now (sizes .entry)) (lent (now (counts .entry)) (now (work .entry)) (now (sums .entry))) r (lent (now (counts .exit)) (now (work .exit)) (now (sums .exit))) ⌝ }
+    ensures { λ r. ⌜ BalancedCall [] limit gap minimum (now (sizes .entry)) (lent (now (counts .entry)) (now (work .entry)) (now (sums .entry))) r (lent (now (counts .exit)) (now (work .exit)) (now (sums .exit))) ⌝ }
 {
     let room = has_room(sizes.len(), counts.len(), work.len(), sums.len());
     match check_breaking(no_mark(), limit, gap, sizes, room) {

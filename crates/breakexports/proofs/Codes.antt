@@ -9,7 +9,7 @@ use lib.Dec.{leb}
 use lib.ListN.{length}
 use lib.Ieee.{Float}
 use Rattle.grid.specs.Grid.{sixtyFourths}
-use Rattle.refusal.specs.Domain.{asAnswer}
+use Rattle.refusal.specs.Marks.{asAnswer}
 use Rattle.refusal.specs.declared.Verdict.{Verdict}
 use Rattle.refusal.specs.declared.Verdict.the-variants.{Passed, Refused}
 use Rattle.breaklimit.specs.declared.AvailableSpace.{AvailableSpace}
@@ -17,11 +17,11 @@ use Rattle.breaking.specs.Breaking.{limitOf, greedy}
 use Rattle.breaking.specs.Calls.{breakingVerdict, units, brokenInto, greedyCall}
 use Rattle.breaking.proofs.Accepted.{code-passes, code-fails}
 use Rattle.refusal.specs.declared.Answer.{Answer}
-use Rattle.balance.specs.Calls.{Lent, hasRoom, BalancedCall}
+use Rattle.balance.specs.Calls.{Lent, hasRoom, balancedVerdict, BalancedCall}
 use Rattle.crossing.specs.declared.CAnswer.{CAnswer}
 use Rattle.crossing.specs.Crossing.{cAnswer}
 use Rattle.breaklimit.specs.Limit.{spaceOf}
-use Rattle.breakexports.specs.Breaks.{kindNumber, greedyFromC, balancedVerdictFromC, BalancedFromC}
+use Rattle.breakexports.specs.Breaks.{kindNumber, greedyFromC, BalancedFromC}
 
 -- a verdict that refused, as the answer of a call: no lines were made, so it does not matter which would have been
 as-refused : (v : Verdict) (lines : List ℕ) (n : ℕ) (before : List ℕ) → ¬ (v ≡ Passed) → (asAnswer v 0 0 ≡ brokenInto v lines n before .answer) × (before ≡ brokenInto v lines n before .counts)
@@ -43,21 +43,26 @@ module _ (kind : ℕ) (limit gap : Float) (sizes : List Float) (before : List �
       (never-passes kind (spaceOf kind limit) gap sizes (leb (length sizes) (length before)) h) in
       (ap (λ (w : Verdict). asAnswer w 0 0) e ∙ r .0, r .1)
 
-  pub named : kind ≤ 2 → greedyCall (spaceOf kind limit) gap sizes before ≡ greedyFromC kind limit gap sizes before
+  pub named : kind ≤ 2 → greedyCall [] (spaceOf kind limit) gap sizes before ≡ greedyFromC kind limit gap sizes before
   named h = ap (λ (w : Verdict). brokenInto w (greedy (limitOf (spaceOf kind limit)) (sixtyFourths gap) (units sizes)) (length sizes) before) (sym (as-without kind (spaceOf kind limit) gap sizes (leb (length sizes) (length before)) h))
 
 module _ (kind : ℕ) (limit gap : Float) (minimum : ℕ) (sizes : List Float) (before : Lent) where
-  pub balanced-unnamed : 2 < kind → (v : Verdict) → v ≡ balancedVerdictFromC kind limit gap sizes before → (r : CAnswer) → r ≡ cAnswer (asAnswer v 0 0) → BalancedFromC kind limit gap minimum sizes before r before
+  pub balanced-unnamed : 2 < kind → (v : Verdict) → v ≡ balancedVerdict (kindNumber kind) (spaceOf kind limit) gap sizes before → (r : CAnswer) → r ≡ cAnswer (asAnswer v 0 0) → BalancedFromC kind limit gap minimum sizes before r before
   balanced-unnamed h v e r f = record {
-    refused = λ why g. (f ∙ ap (λ (w : Verdict). cAnswer (asAnswer w 0 0)) (e ∙ g), refl);
-    accepted = λ g. absurd (never-passes kind (spaceOf kind limit) gap sizes (hasRoom (length sizes) before) h g);
+    inside = asAnswer v 0 0;
+    told = f;
+    called = record {
+      refused = λ why g. (ap (λ (w : Verdict). asAnswer w 0 0) (e ∙ g), refl);
+      accepted = λ g. absurd (never-passes kind (spaceOf kind limit) gap sizes (hasRoom (length sizes) before) h g);
+    };
   }
 
-  pub balanced-named : kind ≤ 2 → {space : AvailableSpace} {a : Answer} {after : Lent} → space ≡ spaceOf kind limit → BalancedCall space gap minimum sizes before a after → (r : CAnswer) → r ≡ cAnswer a → BalancedFromC kind limit gap minimum sizes before r after
+  pub balanced-named : kind ≤ 2 → {space : AvailableSpace} {a : Answer} {after : Lent} → space ≡ spaceOf kind limit → BalancedCall [] space gap minimum sizes before a after → (r : CAnswer) → r ≡ cAnswer a → BalancedFromC kind limit gap minimum sizes before r after
   balanced-named h {space} {a} {after} e inside r f =
-      let call : BalancedCall (spaceOf kind limit) gap minimum sizes before a after = subst (λ (s : AvailableSpace). BalancedCall s gap minimum sizes before a after) e inside in
+      let call : BalancedCall [] (spaceOf kind limit) gap minimum sizes before a after = subst (λ (s : AvailableSpace). BalancedCall [] s gap minimum sizes before a after) e inside in
       let same = sym (as-without kind (spaceOf kind limit) gap sizes (hasRoom (length sizes) before) h) in
       record {
-        refused = λ why g. let p = call .refused why (same ∙ g) in (f ∙ ap cAnswer (p .0), p .1);
-        accepted = λ g. let p = call .accepted (same ∙ g) in (p .0, f ∙ ap cAnswer (p .1), p .2);
+        inside = a;
+        told = f;
+        called = record { refused = λ why g. call .refused why (same ∙ g); accepted = λ g. call .accepted (same ∙ g) };
       }

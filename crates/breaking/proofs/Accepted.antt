@@ -10,7 +10,8 @@ use lib.ListN.{length, getD}
 use lib.IntN.{pos}
 use lib.Ieee.{Float, nan}
 use borrow.Author.Tests.{le-ltb, ltb-false, leb-true, leb-false}
-use Rattle.grid.specs.Grid.{Length, sixtyFourths}
+use Rattle.grid.specs.Grid.{sixtyFourths}
+use Rattle.grid.specs.Values.{Length}
 use Rattle.refusal.specs.declared.Kind.the-variants as kind
 use Rattle.refusal.specs.declared.Refusal.{Refusal}
 use Rattle.refusal.specs.declared.Verdict.{Verdict}

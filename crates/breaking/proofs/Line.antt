@@ -13,7 +13,8 @@ use lib.ListN.{length, getD, drop, length-map, List·getD-map, drop-of-length-le
 use lib.Seq.{drop-cons}
 use lib.IntN.{ℤ, pos, natAbs, _+ℤ_}
 use lib.Ieee.{Float, nan, binary32, add}
-use Rattle.grid.specs.Grid.{At, onGrid, sixtyFourths}
+use Rattle.grid.specs.Grid.{onGrid, sixtyFourths}
+use Rattle.grid.specs.Values.{At}
 use Rattle.grid.proofs.Meaning.{at-of-grid}
 use Rattle.grid.proofs.Sums.{add-grid, abs-add}
 use Rattle.grid.specs.Floats.{sumUpTo}

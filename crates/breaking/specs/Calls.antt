@@ -56,7 +56,7 @@ abbrev pub brokenInto : Verdict → List ℕ → ℕ → List ℕ → Broken
 brokenInto Passed lines n before = broken (Done (length lines) 0) (written n lines before)
 brokenInto (verdict.Refused why) lines n before = broken (answer.Refused why) before
 
--- the whole greedy call
-abbrev pub greedyCall : AvailableSpace → Float → List Float → List ℕ → Broken
-greedyCall limit gap sizes before =
-    brokenInto (breakingVerdict [] limit gap sizes (leb (length sizes) (length before))) (greedy (limitOf limit) (sixtyFourths gap) (units sizes)) (length sizes) before
+-- the whole greedy call, with the codes that came before the limit
+abbrev pub greedyCall : List Number → AvailableSpace → Float → List Float → List ℕ → Broken
+greedyCall codes limit gap sizes before =
+    brokenInto (breakingVerdict codes limit gap sizes (leb (length sizes) (length before))) (greedy (limitOf limit) (sixtyFourths gap) (units sizes)) (length sizes) before

@@ -1,10 +1,11 @@
 // Breaking items into lines: what fits, and greedy breaking (document 01, "Breaking").
 ghost use mathlib.Core.Path.{_≡_};
-ghost use mathlib.Core.List.{List};
+ghost use mathlib.Core.List.{List, []};
 ghost use Prim.Native.Nat.{_≤_, _<_};
 ghost use lib.ListN.{length};
 ghost use lib.IntN.{ℤ};
-ghost use Rattle.grid.specs.Grid.{At, sixtyFourths};
+ghost use Rattle.grid.specs.Grid.{sixtyFourths};
+ghost use Rattle.grid.specs.Values.{At};
 ghost use Rattle.refusal.specs.Domain.{Number};
 ghost use Rattle.refusal.specs.Marks.{leastOf};
 ghost use Rattle.breaking.specs.Breaking.{limitOf, fits, greedy};
@@ -111,7 +112,7 @@ pub fn greedy_checked(limit: AvailableSpace, gap: f32, sizes: &[f32], counts: &m
 
 // Greedy breaking of any bits.
 pub fn greedy(limit: AvailableSpace, gap: f32, sizes: &[f32], counts: &mut [u32]) -> Answer
-    ensures { λ r. ⌜ broken r (now (counts .exit)) ≡ greedyCall limit gap (now (sizes .entry)) (now (counts .entry)) ⌝ }
+    ensures { λ r. ⌜ broken r (now (counts .exit)) ≡ greedyCall [] limit gap (now (sizes .entry)) (now (counts .entry)) ⌝ }
 {
     let v = check_breaking(
         refusal::no_mark(),

@@ -52,11 +52,11 @@ room-is n l h r =
     )
 
 pub breaks : (head : Head) (sizes : List Float) (before after : Lent) (r : Answer) → length sizes ≤ 64 → Roomy before
-    → BalancedCall (head .limit) (head .gap) (head .minimum) sizes before r after
+    → BalancedCall [] (head .limit) (head .gap) (head .minimum) sizes before r after
     → ByVerdict (verdictOf head sizes) head sizes (before .counts) (replyOf r) (after .counts)
 breaks head sizes before after r few roomy call = go (verdictOf head sizes) refl
   where
-    same : balancedVerdict (head .limit) (head .gap) sizes before ≡ verdictOf head sizes
+    same : balancedVerdict [] (head .limit) (head .gap) sizes before ≡ verdictOf head sizes
     same = ap (breakingVerdict [] (head .limit) (head .gap) sizes) (room-is (length sizes) before few roomy)
 
     go : (v : Verdict) → verdictOf head sizes ≡ v → ByVerdict v head sizes (before .counts) (replyOf r) (after .counts)

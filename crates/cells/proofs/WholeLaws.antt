@@ -10,7 +10,7 @@ use lib.Dec.{leb, eqb}
 use lib.IntN.{pos}
 use lib.Ieee.{Float, nan, inf, fin, binary64, up, down, add, sub, mul, eq, le}
 use lib.Ieee.Fits.{down-pos}
-use Rattle.grid.specs.Grid.{At}
+use Rattle.grid.specs.Values.{At}
 use Rattle.grid.proofs.Exact.{le-at, eq-at}
 use Rattle.grid.proofs.Plus.{is-at, add-is, sub-is, mul-is}
 use Rattle.cells.specs.Whole.{Holds, whole}

@@ -10,7 +10,8 @@ use lib.ListN.{length, getD, length-map}
 use lib.IntN.{ℤ, pos, negsuc, natAbs}
 use lib.Ieee.{Float, nan, inf, fin, binary64, isNan, neg, ofBits}
 use lib.Ieee.Exact.{HasValue}
-use Rattle.grid.specs.Grid.{Length, sixtyFourths, signed}
+use Rattle.grid.specs.Grid.{sixtyFourths, signed}
+use Rattle.grid.specs.Values.{Length}
 use Rattle.grid.proofs.Meaning.{at-of-grid}
 use Rattle.grid.specs.Floats.{sumUpTo}
 use Rattle.breaklimit.specs.declared.AvailableSpace.{AvailableSpace}

@@ -13,7 +13,8 @@ use lib.Dec.{ltb}
 use native.Mathlib.Decide.{decLe}
 use borrow.Author.Tests.{lt-ltb, le-ltb}
 use lib.Ieee.{Float}
-use Rattle.format.specs.Format.{front, firstFront, laterFront, float}
+use Rattle.format.specs.Format.{firstFront, laterFront, float}
+use Rattle.format.specs.Parts.{front}
 use Rattle.format.specs.Reading.{Rest, sizes, faulty, more, ending, items}
 use Rattle.format.specs.declared.Head.{Head}
 use Rattle.format.specs.declared.Stage.{Stage}

@@ -10,7 +10,8 @@ use lib.Seq.{length-take-le, take-suc-set}
 use lib.Ieee.{Float}
 use lib.Dec.{ltb}
 use mathlib.Core.Bool.{Bool, true, false, cond}
-use Rattle.format.specs.Format.{front, firstFront, laterFront}
+use Rattle.format.specs.Format.{firstFront, laterFront}
+use Rattle.format.specs.Parts.{front}
 use Rattle.feeding.specs.Machine.{Fed, Sound, Ready, advanced, kept, stepped, fed, withSizes}
 use Rattle.feeding.specs.declared.Reader.{Reader}
 use Rattle.format.specs.declared.Stage.{Stage}

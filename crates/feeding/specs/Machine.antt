@@ -9,7 +9,7 @@ use lib.Dec.{ltb}
 use lib.ListN.{length, take, set, replicate}
 use lib.Ieee.{Float, binary32, ofBits}
 use Rattle.breaklimit.specs.declared.AvailableSpace.the-variants.{MaxContent}
-use Rattle.format.specs.Format.{front}
+use Rattle.format.specs.Parts.{front}
 use Rattle.feeding.specs.declared.Reader.{Reader}
 use Rattle.feeding.specs.declared.Captured.{Captured}
 use Rattle.feeding.specs.declared.Captured.the-variants.{Whole}

@@ -14,7 +14,7 @@ use lib.Ieee.Exact.{HasValue}
 use lib.Ieee.Back.{round-whole}
 use lib.Ieee.Scale.{round-same}
 use lib.Ieee.Fits.{down-pos}
-use Rattle.grid.specs.Grid.{At}
+use Rattle.grid.specs.Values.{At}
 use Rattle.grid.proofs.Convert.{scale-at}
 use Rattle.breaking.specs.Breaking as limit
 use Rattle.cells.specs.Whole.{Holds}

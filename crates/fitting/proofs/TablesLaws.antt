@@ -13,7 +13,7 @@ use lib.Seq.{getD-set-same, getD-set-other}
 use lib.Ieee.{Float, nan, binary64, add}
 use lib.IntN.{ℤ, pos, negsuc}
 use lib.Signed.{leZ}
-use Rattle.grid.specs.Grid.{At}
+use Rattle.grid.specs.Values.{At}
 use Rattle.grid.proofs.Exact.{le-at}
 use Rattle.breaking.specs.Breaking as limit
 use Rattle.rule.specs.Natural.{Limit, max-content, natural, Fits}

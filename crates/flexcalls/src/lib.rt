@@ -1,7 +1,8 @@
 // The call that flexes one line, on any bits: checks 1 to 6, and then the parts of crate `rounds` (document 01, "Flexible lengths").
 ghost use Prim.Native.Nat.{_*_, _≤_};
 ghost use lib.ListN.{length};
-ghost use Rattle.grid.specs.Grid.{Length, cleaned};
+ghost use Rattle.grid.specs.Grid.{cleaned};
+ghost use Rattle.grid.specs.Values.{Length};
 ghost use Rattle.refusal.specs.Domain.{summed};
 ghost use Rattle.flexing.specs.Flex.{outerSum};
 ghost use Rattle.flexing.specs.Items.{lists, itemsOf};

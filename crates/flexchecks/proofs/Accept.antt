@@ -9,7 +9,8 @@ use lib.Dec.{T, eqb}
 use lib.ListN.{length, getD}
 use lib.IntN.{pos, negℤ, natAbs}
 use lib.Ieee.{Float, nan, inf, fin, up, down, ofBits}
-use Rattle.grid.specs.Grid.{Length, onGrid, sixtyFourths, cleaned}
+use Rattle.grid.specs.Grid.{onGrid, sixtyFourths, cleaned}
+use Rattle.grid.specs.Values.{Length}
 use Rattle.refusal.specs.Domain.{Input, float, code, checked, then}
 use Rattle.refusal.specs.Lists.{besideAt}
 use Rattle.refusal.specs.Optional.{optional}

@@ -7,7 +7,8 @@ use Prim.Native.Nat.{_≤_}
 use lib.ListN.{length}
 use lib.IntN.{natAbs}
 use lib.Ieee.{Float, inf}
-use Rattle.grid.specs.Grid.{Length, sixtyFourths}
+use Rattle.grid.specs.Grid.{sixtyFourths}
+use Rattle.grid.specs.Values.{Length}
 use Rattle.flexing.specs.declared.Item.{Item}
 use Rattle.flexing.specs.Items.{Lists, count}
 use Rattle.flexing.specs.Flex.{outerSum}

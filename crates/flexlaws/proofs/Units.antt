@@ -14,7 +14,8 @@ use mir.ValLaws.{toZ-ofZ}
 use lib.ListN.{length}
 use lib.IntN.{ℤ, pos, negsuc, negℤ, natAbs, _+ℤ_, _-ℤ_, _*ℤ_, +ℤ-assoc, +ℤ-idl, +ℤ-idr, *ℤ-zero}
 use lib.Ieee.{Float, nan, inf, fin, binary32, mul, lt, ofInt, ofBits}
-use Rattle.grid.specs.Grid.{At, Length, sixtyFourths}
+use Rattle.grid.specs.Grid.{sixtyFourths}
+use Rattle.grid.specs.Values.{At, Length}
 use Rattle.grid.proofs.Exact.{add-at, mul-at}
 use Rattle.grid.proofs.Meaning.{at-of-grid, grid-of-at, none-at}
 use Rattle.grid.proofs.Sums.{abs-add}

@@ -6,7 +6,7 @@ use Prim.Native.Nat.{ℕ, _≤_, _<_}
 use lib.ListN.{length, getD, drop}
 use lib.IntN.{ℤ, pos}
 use lib.Ieee.{Float}
-use Rattle.grid.specs.Grid.{Length}
+use Rattle.grid.specs.Values.{Length}
 use Rattle.grid.specs.Floats.{sumUpTo}
 use Rattle.flexing.specs.declared.Item.{Item}
 use Rattle.flexing.specs.Flex.{Flexed, outerSum}

@@ -6,7 +6,8 @@ use native.Mathlib.Omega.{arith}
 use lib.ListN.{length}
 use lib.IntN.{ℤ}
 use lib.Ieee.{Float}
-use Rattle.grid.specs.Grid.{Length, cleaned}
+use Rattle.grid.specs.Grid.{cleaned}
+use Rattle.grid.specs.Values.{Length}
 use Rattle.refusal.specs.Domain.{summed, then}
 use Rattle.refusal.specs.Marks.{leastMark, judged}
 use Rattle.refusal.specs.declared.Refusal.{Refusal}

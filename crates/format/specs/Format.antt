@@ -7,8 +7,6 @@ use lib.ListN.{length, getD}
 use lib.Ieee.{Float, binary32, ofBits}
 use Rattle.breaklimit.specs.Limit.{spaceOf}
 use Rattle.format.specs.declared.Head.{Head}
-use Rattle.format.specs.declared.Stage.{Stage}
-use Rattle.format.specs.declared.Stage.the-variants as stage
 use Rattle.format.specs.declared.Parsed.{Parsed}
 use Rattle.format.specs.declared.Parsed.the-variants as parsed
 
@@ -48,10 +46,3 @@ laterFront bytes =
     pick (eqb (kind bytes) 2)
     (pick (leb 5 (length bytes)) (parsed.Item (float bytes 1)) parsed.Partial)
     (pick (eqb (kind bytes) 3) parsed.End parsed.Broken)
-
--- "One kind 1 first, nothing after kind 3"
-abbrev pub front : Stage → List ℕ → Parsed
-front stage.First bytes = firstFront bytes
-front stage.Items bytes = laterFront bytes
-front stage.Ended bytes = parsed.Broken
-front stage.Broken bytes = parsed.Broken

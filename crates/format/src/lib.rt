@@ -3,7 +3,8 @@ ghost use mathlib.Core.Path.{_≡_};
 ghost use Prim.Native.Nat.{_+_, _≤_, _<_};
 ghost use lib.ListN.{length};
 ghost use lib.Ieee.{binary32, ofBits};
-ghost use Rattle.format.specs.Format.{half, word, float, headOf, firstFront, laterFront, front};
+ghost use Rattle.format.specs.Format.{half, word, float, headOf, firstFront, laterFront};
+ghost use Rattle.format.specs.Parts.{front};
 use breaklimit::AvailableSpace;
 use breaklimit::space_of;
 

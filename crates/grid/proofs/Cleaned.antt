@@ -12,7 +12,8 @@ use lib.Ieee.{Float, nan, inf, fin, Format, prec, emax, low, up, down, round, su
 use lib.Ieee.Fits.{up-pos, down-pos, and-r, add-fits}
 use lib.Ieee.Exact.{HasValue, round-exact}
 use borrow.Author.Tests.{lt-ltb, le-ltb}
-use Rattle.grid.specs.Grid.{signed, At, zeroPx, cleaned}
+use Rattle.grid.specs.Grid.{signed, cleaned}
+use Rattle.grid.specs.Values.{At, zeroPx}
 use Rattle.grid.proofs.Meaning.{fits-size, pow-le}
 use Rattle.grid.proofs.Convert.{tidy, clean-at, sign-of}
 use Rattle.grid.proofs.Unique.{same-float}

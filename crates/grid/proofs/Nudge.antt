@@ -14,7 +14,8 @@ use lib.Ieee.Digits.{size-lt, size-le}
 use lib.Ieee.Scale.{finite, grid, overflow, round-val}
 use lib.Ieee.Order.{drop, kept}
 use lib.Ieee.Exact.{HasValue}
-use Rattle.grid.specs.Grid.{zeroPx, signed, At, onGrid, sixtyFourths}
+use Rattle.grid.specs.Grid.{signed, onGrid, sixtyFourths}
+use Rattle.grid.specs.Values.{zeroPx, At}
 use Rattle.grid.proofs.Exact.{rescale, add-nat, sub-nat, sub-at, eq-at}
 use Rattle.grid.proofs.Meaning.{at-of-grid, fits-size}
 use Rattle.grid.proofs.Range.{two^}

@@ -10,7 +10,8 @@ use lib.Signed.{leZ}
 use lib.Ieee.{Float, nan, inf, fin, up, down, le, neg}
 use lib.Ieee.Fits.{down-pos}
 use lib.Ieee.Scale.{finite}
-use Rattle.grid.specs.Grid.{signed, At, onGrid, sixtyFourths, within}
+use Rattle.grid.specs.Grid.{signed, onGrid, sixtyFourths, within}
+use Rattle.grid.specs.Values.{At}
 use Rattle.grid.proofs.Exact.{le-at}
 use Rattle.grid.proofs.Meaning.{at-of-grid, zeroPx, none-at}
 

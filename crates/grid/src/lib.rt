@@ -5,7 +5,8 @@ ghost use lib.IntN.{natAbs};
 ghost use mathlib.Core.Bool.{true, cond};
 ghost use lib.Ieee.{lt, neg};
 ghost use lib.Ieee.Scale.{finite};
-ghost use Rattle.grid.specs.Grid.{At, zeroPx, onGrid, Length, sixtyFourths, cleaned};
+ghost use Rattle.grid.specs.Grid.{onGrid, sixtyFourths, cleaned};
+ghost use Rattle.grid.specs.Values.{At, zeroPx, Length};
 
 pub mod floats; // floats.rt: f32 as the definitions write it
 pub mod whole; // whole.rt: the smaller and the larger of two lengths

@@ -1,6 +1,6 @@
 // Check 6: the sum over items of the magnitude of the hypothetical outer size, and a gap, in sixty-fourths.
 ghost use mathlib.Core.Path.{_≡_};
-ghost use Rattle.grid.specs.Grid.{Length};
+ghost use Rattle.grid.specs.Values.{Length};
 ghost use Rattle.flexing.specs.Flex.{outerUnits, outerSum};
 ghost use Rattle.flexing.specs.Accepted.{Measured};
 ghost use Rattle.itemtable.specs.Table.{Wide, itemsIn, Tabled};

@@ -4,7 +4,8 @@ use Prim.Native.Nat.{ℕ, _*_, _≤_}
 use lib.ListN.{length, take}
 use lib.IntN.{ℤ}
 use lib.Ieee.{Float}
-use Rattle.grid.specs.Grid.{Length, cleaned}
+use Rattle.grid.specs.Grid.{cleaned}
+use Rattle.grid.specs.Values.{Length}
 use Rattle.flexing.specs.Flex.{outerSum}
 use Rattle.itemtable.specs.Table.{itemsIn, Tabled, Held}
 use Rattle.balance.specs.Calls as balance

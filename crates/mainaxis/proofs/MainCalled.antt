@@ -11,7 +11,8 @@ use Rattle.refusal.specs.declared.Verdict.{Verdict}
 use Rattle.refusal.specs.declared.Verdict.the-variants.{Passed, Refused}
 use Rattle.refusal.specs.declared.Answer.{Answer}
 use Rattle.refusal.specs.declared.Answer.the-variants.{Done}
-use Rattle.refusal.specs.Domain.{checked, then, asAnswer}
+use Rattle.refusal.specs.Domain.{checked, then}
+use Rattle.refusal.specs.Marks.{asAnswer}
 use Rattle.refusal.specs.Marks.{leastOf, leastUpTo, judged}
 use Rattle.align.specs.declared.ContentAlignment.{ContentAlignment}
 use Rattle.align.specs.Align.{contentOf}

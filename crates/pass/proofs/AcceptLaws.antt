@@ -8,7 +8,8 @@ use native.Mathlib.Omega.{arith}
 use lib.Dec.{eqb}
 use lib.ListN.{length}
 use lib.Ieee.{Float}
-use Rattle.grid.specs.Grid.{Length, sixtyFourths, cleaned}
+use Rattle.grid.specs.Grid.{sixtyFourths, cleaned}
+use Rattle.grid.specs.Values.{Length}
 use Rattle.grid.proofs.Meaning.{at-of-grid, grid-of-at}
 use Rattle.grid.proofs.Cleaned.{cleaned-at}
 use Rattle.refusal.specs.Domain.{float, shape, summed, then}

@@ -12,7 +12,8 @@ use lib.Signed.{leZ}
 use lib.Ieee.{Float, nan, inf, fin, binary32, up, down, le, fits, ofBits}
 use lib.Ieee.Fits.{down-pos}
 use lib.Ieee.Exact.{HasValue}
-use Rattle.grid.specs.Grid.{signed, At, onGrid, sixtyFourths, within, cleaned}
+use Rattle.grid.specs.Grid.{signed, onGrid, sixtyFourths, within, cleaned}
+use Rattle.grid.specs.Values.{At}
 use Rattle.grid.proofs.Exact.{rescale, le-at}
 use Rattle.grid.proofs.Meaning.{at-of-grid}
 use Rattle.grid.proofs.Range.{within-small}

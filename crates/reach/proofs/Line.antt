@@ -13,7 +13,8 @@ use lib.Ieee.{Float, nan, inf, fin, binary32, up, down, le, fits, ofBits}
 use lib.Ieee.Fits.{and-l, and-r}
 use lib.Ieee.Scale.{finite}
 use Rattle.grid.specs.declared.Sixtyfourths.{Sixtyfourths}
-use Rattle.grid.specs.Grid.{At, onGrid, within, cleaned}
+use Rattle.grid.specs.Grid.{onGrid, within, cleaned}
+use Rattle.grid.specs.Values.{At}
 use Rattle.grid.proofs.Exact.{le-at}
 use Rattle.refusal.specs.Domain.{float, code, notFinite, offGrid, outOfRange, inRange, summed, checked}
 use Rattle.refusal.specs.Lists.{besideAt}

@@ -12,7 +12,8 @@ use lib.Ieee.{Float, nan, inf, fin, binary32, up, down, unlike, round, mul, div,
 use lib.Ieee.Fits.{up-pos, down-pos}
 use lib.Ieee.Exact.{HasValue}
 use lib.Ieee.Scale.{grid}
-use Rattle.grid.specs.Grid.{signed, At}
+use Rattle.grid.specs.Grid.{signed}
+use Rattle.grid.specs.Values.{At}
 use Rattle.grid.proofs.Exact.{eq-at, eqZ}
 use Rattle.grid.specs.Floats.{nought, unity}
 use Rattle.reach.proofs.Rounding.{grid-mono, grid-held, grid-near}

@@ -14,7 +14,8 @@ use lib.Ieee.Fits.{down-pos, round-is}
 use lib.Ieee.Exact.{HasValue, units-val}
 use lib.Ieee.Order.{drop, kept}
 use lib.Ieee.Scale.{grid}
-use Rattle.grid.specs.Grid.{signed, At}
+use Rattle.grid.specs.Grid.{signed}
+use Rattle.grid.specs.Values.{At}
 use Rattle.grid.proofs.Exact.{lt-at}
 use Rattle.reach.proofs.Rounding.{kept-le, grid-mono, grid-held, grid-near-whole}
 

@@ -7,7 +7,7 @@ use native.Mathlib.Omega.{arith}
 use mathlib.Core.List.{List, [], _∷_, _++_, map, map-append, append-assoc, append-nil}
 use lib.ListN.{length, set, take, drop, getD, length-set, length-map, length-append, length-drop, take-append-drop, drop-of-length-le}
 use lib.Seq.{length-take-le, take-suc, drop-cons, set-append-left, set-at, append-snoc, drop-drop, take-at, drop-append-add}
-use Rattle.records.specs.Items.{stored}
+use Rattle.records.specs.Parts.{stored}
 use Rattle.records.proofs.Stored.{length-stored}
 
 module _ {A : Type 0} (m : ℕ) where

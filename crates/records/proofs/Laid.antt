@@ -9,7 +9,8 @@ use lib.Ieee.{Float, fin}
 use lib.ListN.{length, take, drop, getD}
 use lib.Seq.{take-length}
 use Rattle.records.specs.declared.Item.{Item}
-use Rattle.records.specs.Items.{numbersIn, codesIn, numbersOf, codesOf}
+use Rattle.records.specs.Items.{numbersOf, codesOf}
+use Rattle.records.specs.Parts.{numbersIn, codesIn}
 use Rattle.records.proofs.Columns.{laid, length-laid, laid-all, taken-all, joined-at}
 
 -- what stands past the end of a list of items

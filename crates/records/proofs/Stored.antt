@@ -3,7 +3,7 @@ use mathlib.Core.Path.{_≡_, refl, sym, _∙_, subst}
 use Prim.Native.Nat.{ℕ, _+_, _<_}
 use mathlib.Core.List.{List, [], _∷_}
 use lib.ListN.{length, set, length-set}
-use Rattle.records.specs.Items.{stored}
+use Rattle.records.specs.Parts.{stored}
 
 module _ {A : Type 0} (m : ℕ) where
   pub length-stored : (vs l : List A) (at : ℕ) → length (stored m l at vs) ≡ length l

@@ -1,8 +1,7 @@
 -- The plain lists of a slice of items: fourteen columns of numbers, one after another, and eight of codes. Column k has a cell for each
 -- item, so field k of item i of m stands at k · m + i. Assumes nothing.
-use Prim.Native.Nat.{ℕ, _+_}
-use mathlib.Core.List.{List, [], _∷_, _++_, map}
-use lib.ListN.{set}
+use Prim.Native.Nat.{ℕ}
+use mathlib.Core.List.{List, _++_, map}
 use lib.Ieee.{Float}
 use Rattle.records.specs.declared.Item.{Item}
 
@@ -21,20 +20,3 @@ codesOf xs =
     map (λ (x : Item). x .«has_main_maximum») xs ++ map (λ (x : Item). x .«auto_main_start») xs ++ map (λ (x : Item). x .«auto_main_end») xs
     ++ map (λ (x : Item). x .«has_cross_maximum») xs ++ map (λ (x : Item). x .«auto_cross_start») xs ++ map (λ (x : Item). x .«auto_cross_end») xs
     ++ map (λ (x : Item). x .«align_self») xs ++ map (λ (x : Item). x .«auto_cross_size») xs
-
--- ---- one item
-
-abbrev pub numbersIn : Item → List Float
-numbersIn x =
-    x .«main_base» ∷ x .«main_minimum» ∷ x .«main_maximum» ∷ x .«main_edges» ∷ x .grow ∷ x .shrink ∷ x .«main_start» ∷ x .«main_end»
-    ∷ x .«cross_measured» ∷ x .«cross_minimum» ∷ x .«cross_maximum» ∷ x .«cross_edges» ∷ x .«cross_start» ∷ x .«cross_end» ∷ []
-
-abbrev pub codesIn : Item → List ℕ
-codesIn x =
-    x .«has_main_maximum» ∷ x .«auto_main_start» ∷ x .«auto_main_end» ∷ x .«has_cross_maximum» ∷ x .«auto_cross_start» ∷ x .«auto_cross_end»
-    ∷ x .«align_self» ∷ x .«auto_cross_size» ∷ []
-
--- values stored into a list, the first at `at` and each next one a column of m cells further on
-abbrev pub stored {ℓ} : {A : Type ℓ} → ℕ → List A → ℕ → List A → List A
-stored m l at [] = l
-stored m l at (v ∷ vs) = stored m (set l at v) (at + m) vs

@@ -4,7 +4,8 @@ ghost use mathlib.Core.Path.{_≡_};
 ghost use mathlib.Core.List.{_++_};
 ghost use Prim.Native.Nat.{_+_, _*_, _<_, _≤_, min};
 ghost use lib.ListN.{length, take, drop};
-ghost use Rattle.records.specs.Items.{numbersIn, codesIn, stored, numbersOf, codesOf};
+ghost use Rattle.records.specs.Items.{numbersOf, codesOf};
+ghost use Rattle.records.specs.Parts.{numbersIn, codesIn, stored};
 
 // An item: fourteen numbers and eight codes, each read as the pass reads its column. A flag is a code: 0 no, 1 yes; the pass refuses
 // any other.

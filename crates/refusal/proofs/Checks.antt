@@ -13,7 +13,8 @@ use lib.Signed.{leZ}
 use lib.Ieee.{Float, binary32, le, neg, ofBits}
 use lib.Ieee.Scale.{finite}
 use borrow.Author.Tests.{lt-ltb, le-ltb, ltb-true, ltb-false, leb-true, not-false}
-use Rattle.grid.specs.Grid.{Length, onGrid, sixtyFourths, within}
+use Rattle.grid.specs.Grid.{onGrid, sixtyFourths, within}
+use Rattle.grid.specs.Values.{Length}
 use Rattle.grid.proofs.Exact.{le-at}
 use Rattle.grid.proofs.Meaning.{none-at, none-bits, at-of-grid}
 use Rattle.grid.proofs.Range.{within-small}

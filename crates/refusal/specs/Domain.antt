@@ -112,10 +112,6 @@ then (verdict.Refused why) rest = verdict.Refused why
 
 -- ---- the answer
 
-abbrev pub asAnswer : Verdict → ℕ → ℕ → Answer
-asAnswer Passed lines rounds = Done lines rounds
-asAnswer (verdict.Refused why) lines rounds = answer.Refused why
-
 -- where an answer points: nowhere, at the container, or at an item or line (of answer 7: a byte)
 pub data Where : Type 0 where
   nowhere : Where

@@ -8,13 +8,16 @@ use Prim.Native.Nat.{ℕ, zero, suc, _+_, _-_, _<_, min}
 use lib.Dec.{T, ltb}
 use lib.ListN.{length, getD}
 use lib.Ieee.{Float, nan}
-use Rattle.grid.specs.Grid.{Length}
+use Rattle.grid.specs.Values.{Length}
 use Rattle.refusal.specs.Domain.{Number, notFinite, offGrid, outOfRange, Input, orElse}
 use Rattle.refusal.specs.declared.Place.{Place}
 use Rattle.refusal.specs.declared.Place.the-variants.{Container, At}
 use Rattle.refusal.specs.declared.Refusal.the-variants.{NotFinite, OffGrid, OutOfRange}
 use Rattle.refusal.specs.declared.Verdict.{Verdict}
 use Rattle.refusal.specs.declared.Verdict.the-variants.{Passed, Refused}
+use Rattle.refusal.specs.declared.Answer.{Answer}
+use Rattle.refusal.specs.declared.Answer.the-variants.{Done}
+use Rattle.refusal.specs.declared.Answer.the-variants as answer
 
 -- the place is 0 for the container and i + 1 for item i; 6144 is no mark
 unfoldable pub mark : Number → ℕ → ℕ
@@ -61,3 +64,9 @@ AllFine (x ∷ l) = Fine x × AllFine l
 pub record Sound (input : Input) : Type 0 where
   pub container : AllFine (input .container)
   pub items : (i : ℕ) → i < input .count → AllFine (input .item i)
+
+-- ---- the answer of a verdict
+
+abbrev pub asAnswer : Verdict → ℕ → ℕ → Answer
+asAnswer Passed lines rounds = Done lines rounds
+asAnswer (Refused why) lines rounds = answer.Refused why

@@ -3,7 +3,8 @@
 // These are parts for calls of other crates to compose, and no entry points.
 ghost use mathlib.Core.Path.{_≡_};
 ghost use Prim.Native.Nat.{min};
-ghost use Rattle.refusal.specs.Domain.{shape, summed, asAnswer};
+ghost use Rattle.refusal.specs.Domain.{shape, summed};
+ghost use Rattle.refusal.specs.Marks.{asAnswer};
 ghost use Rattle.refusal.specs.Marks.{judged, placeOf};
 
 pub mod shapes; // shapes.rt: checks 1 and 2 of the lengths of lists

@@ -13,7 +13,8 @@ use borrow.Author.Tests.{lt-ltb, le-ltb}
 use Rattle.refusal.specs.Domain.{whereOf}
 use Rattle.refusal.specs.declared.Place.{Place}
 use Rattle.refusal.specs.declared.Place.the-variants.{Container, At}
-use Rattle.spelling.specs.Text.{Put, decimalTo, decimal, spaced, placeText, replyPaper, titleText, counts-word}
+use Rattle.spelling.specs.Text.{decimalTo, decimal, spaced, placeText, replyPaper, titleText, counts-word}
+use Rattle.spelling.specs.Parts.{Put}
 use Rattle.spelling.specs.declared.Reply.the-variants.{Lines}
 
 pub put-none : {before : List ℕ} {at : ℕ} → Put [] before before at at

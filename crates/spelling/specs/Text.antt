@@ -1,10 +1,9 @@
 -- Document 01, "Records for the program": what the program prints, as bytes. Assumes nothing.
-use mathlib.Core.Path.{_≡_}
 use mathlib.Core.Bool.{cond}
 use mathlib.Core.List.{List, [], _∷_, _++_}
 use Prim.Native.Nat.{ℕ, zero, suc, _+_, _/_, _%_}
 use lib.Dec.{ltb}
-use lib.ListN.{length, take}
+use lib.ListN.{take}
 use Rattle.refusal.specs.Domain.{Where, nowhere, at-container, at-item, Paper, refusedAs, refusalOf}
 use Rattle.spelling.specs.declared.Reply.{Reply}
 use Rattle.spelling.specs.declared.Reply.the-variants.{Lines, Refused, Broken}
@@ -67,9 +66,3 @@ abbrev pub textOf : Reply → List ℕ → List ℕ
 textOf (Lines k) counts = linesText (replyPaper (Lines k)) counts
 textOf (Refused why) counts = refusalText (replyPaper (Refused why))
 textOf (Broken offset) counts = refusalText (replyPaper (Broken offset))
-
--- `text` is written at `at` of a list, which is as it was before that, and `next` is past it
-pub record Put (text before after : List ℕ) (at next : ℕ) : Type 0 where
-  pub past : next ≡ at + length text
-  pub front : take next after ≡ take at before ++ text
-  pub as-long : length after ≡ length before

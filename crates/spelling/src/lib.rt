@@ -2,7 +2,8 @@
 ghost use mathlib.Core.List.{[], _∷_};
 ghost use Prim.Native.Nat.{_+_, _*_, _≤_, _<_};
 ghost use lib.ListN.{length, take};
-ghost use Rattle.spelling.specs.Text.{Put, decimalTo, decimal, spaced, placeText, headText, refusalText, replyPaper, titleText, linesText, textOf};
+ghost use Rattle.spelling.specs.Text.{decimalTo, decimal, spaced, placeText, headText, refusalText, replyPaper, titleText, linesText, textOf};
+ghost use Rattle.spelling.specs.Parts.{Put};
 ghost use Rattle.refusal.specs.Domain.{whereOf, refusalOf};
 ghost use Rattle.spelling.specs.declared.Reply.the-variants.{Lines};
 use refusal::Place;

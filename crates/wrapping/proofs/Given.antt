@@ -10,7 +10,8 @@ use lib.ListN.{length, getD, take, drop, List·getD-append}
 use lib.Seq.{getD-append-seam, take-at}
 use lib.IntN.{ℤ, pos, natAbs}
 use lib.Ieee.{Float, nan}
-use Rattle.grid.specs.Grid.{At, Length, sixtyFourths}
+use Rattle.grid.specs.Grid.{sixtyFourths}
+use Rattle.grid.specs.Values.{At, Length}
 use Rattle.grid.proofs.Meaning.{grid-of-at}
 use Rattle.grid.specs.Floats.{sumUpTo, each}
 use Rattle.breaklimit.specs.declared.AvailableSpace.{AvailableSpace}

@@ -17,7 +17,7 @@ before st = lent (st .args .counts .now) (st .args .work .now) (st .args .sums .
 
 -- the verdict of the checks
 verdict : (c : tie.After-check-breaking) → let st = c .before .before .before .before .before .before .before in
-    c .check-breaking .result ≡ balancedVerdict (st .args .limit) (st .args .gap) (now (st .args .sizes)) (before st)
+    c .check-breaking .result ≡ balancedVerdict [] (st .args .limit) (st .args .gap) (now (st .args .sizes)) (before st)
 unfolding leastOf
 verdict c =
     let st = c .before .before .before .before .before .before .before in
@@ -43,21 +43,21 @@ enum-told c = search needs
 divide-lent-requires : tie.Need-divide-lent-requires
 divide-lent-requires c κs =
     let st = c .before .before .before .before .before .before .before .before .before .before .before .before in
-    given (st .args .limit) (st .args .gap) (now (st .args .sizes)) (before st) (sym (verdict (c .before .before .before .before .before)) ∙ c .before .before .before .enum-told .given .1)
+    given [] (st .args .limit) (st .args .gap) (now (st .args .sizes)) (before st) (sym (verdict (c .before .before .before .before .before)) ∙ c .before .before .before .enum-told .given .1)
 
 cast-t24 : tie.Need-cast-t24
 cast-t24 c =
     let st = c .before .before .before .before .before .before .before .before .before .before .before .before .before .before .before .before .before .before .before in
     let a = st .args in
     let d = c .before .before .before .before .before .before .divide-lent in
-    let g = given (a .limit) (a .gap) (now (a .sizes)) (before st) (sym (verdict (c .before .before .before .before .before .before .before .before .before .before .before .before)) ∙ c .before .before .before .before .before .before .before .before .before .before .enum-told .given .1) in
+    let g = given [] (a .limit) (a .gap) (now (a .sizes)) (before st) (sym (verdict (c .before .before .before .before .before .before .before .before .before .before .before .before)) ∙ c .before .before .before .before .before .before .before .before .before .before .enum-told .given .1) in
     omega (arith, g .0 .few, lines-few (a .limit) (a .gap) (a .minimum) (now (a .sizes)) (before st) (lent (d .last .1 .1 .1 .1 .0) (d .last .1 .1 .1 .1 .1 .0) (d .last .1 .1 .1 .1 .1 .1 .0)) (d .result) (d .ensures))
 
 returns : tie.Need-returns
 returns c =
     let st = c .before .before .before .before .before .before .before .before .before .before in
     let a = st .args in
-    call-refused (a .limit) (a .gap) (a .minimum) (now (a .sizes)) (before st) (c .before .why .given .0 .0) (sym (verdict (c .before .before .before)) ∙ c .before .why .given .1)
+    call-refused [] (a .limit) (a .gap) (a .minimum) (now (a .sizes)) (before st) (c .before .why .given .0 .0) (sym (verdict (c .before .before .before)) ∙ c .before .why .given .1)
 
 same-length : tie.Need-same-length
 same-length c = search needs
@@ -73,7 +73,7 @@ returns-2 c =
     let st = c .before .before .before .before .before .before .before .before .before .before .before .before .before .before .before .before .before .before .before in
     let a = st .args in
     let d = c .before .before .before .before .before .before .divide-lent in
-    call-accepted (a .limit) (a .gap) (a .minimum) (now (a .sizes)) (before st) (d .result) (lent (d .last .1 .1 .1 .1 .0) (d .last .1 .1 .1 .1 .1 .0) (d .last .1 .1 .1 .1 .1 .1 .0)) (sym (verdict (c .before .before .before .before .before .before .before .before .before .before .before .before)) ∙ c .before .before .before .before .before .before .before .before .before .before .enum-told .given .1) (d .ensures)
+    call-accepted [] (a .limit) (a .gap) (a .minimum) (now (a .sizes)) (before st) (d .result) (lent (d .last .1 .1 .1 .1 .0) (d .last .1 .1 .1 .1 .1 .0) (d .last .1 .1 .1 .1 .1 .1 .0)) (sym (verdict (c .before .before .before .before .before .before .before .before .before .before .before .before)) ∙ c .before .before .before .before .before .before .before .before .before .before .enum-told .given .1) (d .ensures)
 
 pub balanced-spec : {M : Type 1} → statement M
 balanced-spec =

@@ -1,6 +1,7 @@
 -- `breakexports::fratolivem_greedy` meets its contract: a kind that names nothing is refused by the checks, and one that names a space
 -- changes nothing of what the checks say, so that the call inside answers. Assumes nothing.
 use mathlib.Core.Path.{sym, ap, _∙_}
+use mathlib.Core.List.{[]}
 use Prim.Native.Nat.{zero-le}
 use denote.Ref.{now}
 use lib.Dec.{leb}
@@ -55,7 +56,7 @@ returns-2 c =
     let a = c .before .before .before .before .before .before .before .before .before .args in
     let s = c .before .before .before .before .before .before .space-of .ensures in
     let n = named (a .limit-kind) (a .limit) (a .gap) (now (a .sizes)) (now (a .counts)) (c .before .before .before .before .before .if1 .left) in
-    let g = c .before .before .before .greedy .ensures ∙ ap (λ (space : AvailableSpace). greedyCall space (a .gap) (now (a .sizes)) (now (a .counts))) s ∙ n in
+    let g = c .before .before .before .greedy .ensures ∙ ap (λ (space : AvailableSpace). greedyCall [] space (a .gap) (now (a .sizes)) (now (a .counts))) s ∙ n in
     record { answer = c .to-c2 .ensures ∙ ap (λ (b : Broken). cAnswer (b .answer)) g; cells = ap (λ (b : Broken). b .counts) g }
 
 pub fratolivem-greedy-spec : {M : Type 1} → statement M

@@ -2,7 +2,7 @@
 use borrow.Author.Needs.{needs}
 use mathlib.Core.Path.{sym, ap, _∙_, subst}
 use native.Mathlib.Nat.{zero-lt-suc}
-use Rattle.grid.specs.Grid.{Length}
+use Rattle.grid.specs.Values.{Length}
 use Rattle.grid.proofs.Exact.{le-at}
 use Rattle.grid.proofs.Meaning.{at-of-grid}
 use Rattle.breaklimit.specs.declared.AvailableSpace.{AvailableSpace}

@@ -3,7 +3,7 @@ use mathlib.Core.Path.{sym, subst}
 use lib.Ieee.{Float}
 use native.Mathlib.Omega.{arith}
 use denote.Ref.{now}
-use Rattle.grid.specs.Grid.{Length}
+use Rattle.grid.specs.Values.{Length}
 use Rattle.flexing.specs.Items.{Lists, lists}
 use Rattle.flexchecks.proofs.Accept.{inner-length, gap-length, measured-of}
 use Rattle.flexcalls.proofs.OneLine.{answered-as}

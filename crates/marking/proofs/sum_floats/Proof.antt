@@ -8,7 +8,8 @@ use denote.Ref.{now}
 use lib.IntN.{ℤ, natAbs}
 use lib.ListN.{length, getD}
 use lib.Ieee.{Float, nan}
-use Rattle.grid.specs.Grid.{Length, sixtyFourths}
+use Rattle.grid.specs.Grid.{sixtyFourths}
+use Rattle.grid.specs.Values.{Length}
 use Rattle.grid.specs.Floats.{sumUpTo}
 use Rattle.refusal.specs.Marks.{Lengths}
 use Rattle.refusal.proofs.Sweep.{sum-none, sum-more}

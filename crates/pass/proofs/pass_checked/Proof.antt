@@ -6,7 +6,8 @@ use lib.ListN.{replicate}
 use lib.Ieee.{Float}
 use denote.Ref.{now}
 use Rattle.grid.specs.Floats.{nought}
-use Rattle.grid.specs.Grid.{Length, cleaned}
+use Rattle.grid.specs.Grid.{cleaned}
+use Rattle.grid.specs.Values.{Length}
 use Rattle.refusal.specs.Domain.{summed}
 use Rattle.refusal.proofs.Checks.{summed-passed}
 use Rattle.flexing.specs.Flex.{outerSum}

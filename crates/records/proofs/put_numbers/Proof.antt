@@ -2,7 +2,7 @@
 use mathlib.Core.Path.{refl}
 use native.Mathlib.Omega.{arith}
 use lib.ListN.{take}
-use Rattle.records.specs.Items.{numbersIn}
+use Rattle.records.specs.Parts.{numbersIn}
 use Rattle.records.proofs.Stored.{length-stored, within}
 use borrow.Author.Needs.{needs}
 use Rattle.records.proofs.put_numbers.Statement.{statement}

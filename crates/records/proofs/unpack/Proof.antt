@@ -48,7 +48,7 @@ use denote.Triple.Clauses.{ensured, lasts}
 use denote.Triple.Table.{entered, cited}
 use denote.Triple.Walked.{says, needs, Stays, stay-none-slice, stay-none, stay-slice, walkOf, Walks, ends-at, walked, goes-none-slice, goes-none, goes-slice, walk-meets}
 use Rattle.records.specs.declared.Item.{Item}
-use Rattle.records.specs.Items.{stored, numbersIn, codesIn}
+use Rattle.records.specs.Parts.{stored, numbersIn, codesIn}
 use Rattle.records.proofs.Laid.{blank, itemAt, numbersLaid, codesLaid, length-numbers, length-codes, all-numbers, all-codes}
 use Rattle.records.proofs.Again.{LentAgain, lends-again, comes-back}
 use Rattle.records.proofs.Item as T

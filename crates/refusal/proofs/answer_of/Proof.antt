@@ -2,7 +2,7 @@
 use mathlib.Core.Path.{sym, ap}
 use borrow.Author.Needs.{needs}
 use Rattle.refusal.specs.declared.Verdict.{Verdict}
-use Rattle.refusal.specs.Domain.{asAnswer}
+use Rattle.refusal.specs.Marks.{asAnswer}
 use Rattle.refusal.proofs.answer_of.Statement.{statement}
 use Rattle.refusal.proofs.answer_of.Tie as tie
 

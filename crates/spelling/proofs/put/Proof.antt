@@ -2,7 +2,7 @@
 use Prim.Native.Nat.{_+_, _-_, _≤_}
 use native.Mathlib.Omega.{arith}
 use lib.ListN.{length, take}
-use Rattle.spelling.specs.Text.{Put}
+use Rattle.spelling.specs.Parts.{Put}
 use Rattle.spelling.proofs.Puts.{at-start, put-next, at-end}
 use Rattle.spelling.proofs.put.Statement.{statement}
 use Rattle.spelling.proofs.put.Tie as tie

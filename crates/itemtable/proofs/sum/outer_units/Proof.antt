@@ -2,7 +2,8 @@
 use borrow.Author.Needs.{needs}
 use mathlib.Core.Path.{sym, ap, _∙_, subst}
 use lib.Ieee.{Float}
-use Rattle.grid.specs.Grid.{Length, sixtyFourths}
+use Rattle.grid.specs.Grid.{sixtyFourths}
+use Rattle.grid.specs.Values.{Length}
 use Rattle.flexlaws.proofs.Units.{first-length, margins-added, outer-added}
 use Rattle.itemtable.proofs.sum.outer_units.Statement.{statement}
 use Rattle.itemtable.proofs.sum.outer_units.Tie as tie

@@ -9,7 +9,8 @@ use lib.Ieee.{Float}
 use mir.Syntax.{w32}
 use mir.Val.{toZ, ofZ, SFits}
 use denote.Ref.{now}
-use Rattle.grid.specs.Grid.{Length, sixtyFourths}
+use Rattle.grid.specs.Grid.{sixtyFourths}
+use Rattle.grid.specs.Values.{Length}
 use Rattle.flexing.specs.declared.Item.{Item}
 use Rattle.grid.specs.Floats.{gaps, _⊕_}
 use Rattle.flexing.specs.Flex.{total, outer, hypothetical, freeBefore}
