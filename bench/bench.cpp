@@ -153,7 +153,7 @@ int main(int argc, char **argv) {
     balanced("  the loosest such limit", many(count / 4, [] { return limited(200, 1.0); }), repetitions);
     balanced("max-content, minimum 12", many(count, [] { return unlimited(200); }), repetitions);
     for (std::size_t n = 64; n <= 1024; n *= 2) {
-        const std::size_t lists = std::max<std::size_t>(chunk, count / n);
+        const std::size_t lists = std::max<std::size_t>(chunk, count * 20 / n);
         balanced("growth: definite limit, 12 lines", many(lists, [&] { return limited(n, 0.5); }), repetitions);
         balanced("growth: max-content, minimum 12", many(lists, [&] { return unlimited(n); }), repetitions);
     }

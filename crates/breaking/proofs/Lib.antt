@@ -4,4 +4,3 @@ pub mod Line
 pub mod Counts
 pub mod Accepted
 pub mod Unique
-pub mod Examples

@@ -3,5 +3,4 @@ pub mod Falls
 pub mod Round
 pub mod Units
 pub mod Determined
-pub mod Examples
 pub mod Sign

@@ -9,6 +9,7 @@ use native.Mathlib.Nat.{eq-or-lt-of-le, le-of-suc-le-suc}
 use native.Mathlib.Omega.{arith}
 use lib.Dec.{T, leb, ltb, ltb→lt, leb→le}
 use lib.ListN.{length, drop}
+use lib.IntN.{ℤ}
 use lib.Ieee.{Float, ofInt, ofBits, add, sub, neg, mul, div, lt, le, eq}
 use Rattle.grid.specs.Grid.{sixtyFourths, cleaned}
 use Rattle.breaking.specs.Breaking.{Limit, fits, lineSize, taken, linesOf, greedy}
@@ -69,19 +70,20 @@ module _ (inner : ℕ) (items : List Item) where
       last (inr m) f = f k m
 
   -- what is computed of a line
-  record Computed (sizes : List ℕ) (rounds : ℕ) : Type 0 where
+  record Computed (free : ℤ) (sizes : List ℕ) (rounds : ℕ) : Type 0 where
+    free-is : freeBefore (float inner) (float 0) items ≡ free
     sizes-are : targets (float inner) (float 0) items rounds ≡ map float sizes
     over : unfrozen (after line rounds cells) ≡ 0
     needed : Before rounds
     few : T (leb rounds (length items))
     as-many : length sizes ≡ length items
 
-  flexes : (sizes : List ℕ) (rounds : ℕ) → Computed sizes rounds → Holds (row.flexed inner items sizes rounds)
-  flexes sizes rounds h = (
-    λ old. (freeBefore (float inner) (float 0) items, record { space = refl; number = runs; few = leb→le rounds (length items) (h .few); cells = sym (answers old) }),
-    λ free r old new f.
+  flexes : (free : ℤ) (sizes : List ℕ) (rounds : ℕ) → Computed free sizes rounds → Holds (row.flexed inner items free sizes rounds)
+  flexes free sizes rounds h = (
+    λ old. record { space = sym (h .free-is); number = runs; few = leb→le rounds (length items) (h .few); cells = sym (answers old) },
+    λ z r old new f.
         let e = rounds-one line cells r rounds (f .number) runs in
-        (e, f .cells ∙ ap (λ (n : ℕ). targets (float inner) (float 0) items n ++ drop (length items) old) e ∙ answers old),
+        (f .space ∙ h .free-is, e, f .cells ∙ ap (λ (n : ℕ). targets (float inner) (float 0) items n ++ drop (length items) old) e ∙ answers old),
   )
     where
       runs : Runs line cells rounds
@@ -124,7 +126,7 @@ stretches lines gap size sizes h m s o s₁ o₁ inner p =
 abbrev Computes : Row → Type 0
 Computes (row.balanced sizes l gap minimum counts) = (first : List ℕ) × T (caseB (caseOf sizes l gap minimum counts first))
 Computes (row.greedily sizes l gap counts) = greedy l (px gap) (map px sizes) ≡ counts
-Computes (row.flexed inner items sizes rounds) = Computed inner items sizes rounds
+Computes (row.flexed inner items free sizes rounds) = Computed inner items free sizes rounds
 Computes (row.spaced n free gap keyword offsets) =
     ((inner : Float) × (l : main.Line) × Plain inner l n free gap) × (each n (offsetsOf n (float free) 0 gap keyword) ≡ map float offsets) × (length offsets ≡ n)
 Computes (row.stretched lines gap size sizes) = (each (length (map float lines)) (grownOf lines gap size) ≡ map float sizes) × (length sizes ≡ length (map float lines))
@@ -132,7 +134,7 @@ Computes (row.stretched lines gap size sizes) = (each (length (map float lines))
 holds : (r : Row) → Computes r → Holds r
 holds (row.balanced sizes l gap minimum counts) t = balances sizes l gap minimum counts (t .0) (t .1)
 holds (row.greedily sizes l gap counts) t = t
-holds (row.flexed inner items sizes rounds) t = flexes inner items sizes rounds t
+holds (row.flexed inner items free sizes rounds) t = flexes inner items free sizes rounds t
 holds (row.spaced n free gap keyword offsets) t = (
   t .0,
   λ inner l q o s e.
@@ -168,19 +170,21 @@ computed : All table
 unfolding table greedy linesOf taken fits lineSize float half none flexible sumFrom clamp sumUnits inflexible left gaps limited share flexed violation freezes settle round after sixtyFourths each ten main.outer main.freeSpace main.autoCount main.justified axis.margin axis.autos axis.offsets axis.stepped fallback madeSafe positioned firstOffset laterOffset container readCross total bounded gainTo gain grown lineGain cleaned ofInt ofBits add sub neg mul div lt le eq
 computed =
     (2 ∷ 1 ∷ [], tt)
+    & refl
     & (1 ∷ 2 ∷ [], tt)
     & (3 ∷ [], tt)
     & (3 ∷ [], tt)
     & (3 ∷ 1 ∷ [], tt)
     & refl
     & (2 ∷ [], tt)
+    & refl
     & (1 ∷ [], tt)
     & ([], tt)
     & (2 ∷ [], tt)
-    & record { sizes-are = refl; over = refl; needed = (tt, tt); few = tt; as-many = refl }
-    & record { sizes-are = refl; over = refl; needed = ((tt, tt), tt); few = tt; as-many = refl }
-    & record { sizes-are = refl; over = refl; needed = (tt, tt); few = tt; as-many = refl }
-    & record { sizes-are = refl; over = refl; needed = (tt, tt); few = tt; as-many = refl }
+    & record { free-is = refl; sizes-are = refl; over = refl; needed = (tt, tt); few = tt; as-many = refl }
+    & record { free-is = refl; sizes-are = refl; over = refl; needed = ((tt, tt), tt); few = tt; as-many = refl }
+    & record { free-is = refl; sizes-are = refl; over = refl; needed = (tt, tt); few = tt; as-many = refl }
+    & record { free-is = refl; sizes-are = refl; over = refl; needed = (tt, tt); few = tt; as-many = refl }
     & ((float 100, ten, record { items = refl; autos = refl; space = refl }), refl, refl)
     & (refl, refl)
     & (2 ∷ 4 ∷ 1 ∷ [], tt)

@@ -1,11 +1,12 @@
--- P1 TO P15 of document 01, one table: a row has a case's inputs and then document 01's answers, lengths in whole pixels (the rounds of P12 and P13 are
--- ours), and `Holds` is what it claims of the definitions that the contracts cite: they give these answers and no others. `table-holds` of proofs/Table.antt is the proof. Assumes nothing.
+-- P1 TO P15 of document 01, one table: a row has a case's inputs and then document 01's answers, lengths in whole pixels, and
+-- `Holds` is what it claims of the definitions that the contracts cite: they give these answers and no others. `table-holds` of proofs/Table.antt
+-- is the proof. Assumes nothing.
 use mathlib.Core.Path.{_≡_}
 use mathlib.Core.Bool.{false}
 use mathlib.Core.List.{List, [], _∷_, _++_, map}
 use Prim.Native.Nat.{ℕ, _*_}
 use lib.ListN.{length, drop}
-use lib.IntN.{ℤ, pos}
+use lib.IntN.{ℤ, pos, negℤ}
 use lib.Ieee.{Float, inf, binary32, ofInt, ofBits}
 use Rattle.breaklimit.specs.declared.Bound.the-variants.{Absent, Given}
 use Rattle.breaking.specs.Breaking.{Limit, definite, max-content, greedy}
@@ -46,8 +47,8 @@ pub data Row : Type 0 where
   balanced : List ℕ → Limit → ℕ → ℕ → List ℕ → Row
   -- sizes; limit, gap; the greedy counts
   greedily : List ℕ → Limit → ℕ → List ℕ → Row
-  -- inner size; items; their sizes, and the rounds
-  flexed : ℕ → List Item → List ℕ → ℕ → Row
+  -- inner size; items; the free space, the items' sizes, and the rounds
+  flexed : ℕ → List Item → ℤ → List ℕ → ℕ → Row
   -- number of items, free space, gap, keyword; the offsets
   spaced : ℕ → ℕ → ℕ → Distribution → List ℕ → Row
   -- line sizes; gap, inner cross size; the stretched sizes
@@ -58,22 +59,24 @@ limit n = definite (px n)
 
 unfoldable pub table : List Row
 table =
-    -- P1 to P9; P5 with its greedy counts
+    -- P1 to P9; P1, P5 and P6 with their greedy counts, of which document 01 gives those of P5
     balanced (70 ∷ 0 ∷ 20 ∷ []) (limit 100) 10 1 (2 ∷ 1 ∷ [])
+    ∷ greedily (70 ∷ 0 ∷ 20 ∷ []) (limit 100) 10 (2 ∷ 1 ∷ [])
     ∷ balanced (150 ∷ 0 ∷ 30 ∷ []) (limit 100) 0 1 (1 ∷ 2 ∷ [])
     ∷ balanced (70 ∷ 0 ∷ 0 ∷ []) (limit 100) 0 2 (2 ∷ 1 ∷ [])
     ∷ balanced (10 ∷ 10 ∷ 10 ∷ []) (limit 100) 0 2 (2 ∷ 1 ∷ [])
     ∷ balanced (50 ∷ 50 ∷ 50 ∷ 10 ∷ []) (limit 150) 0 1 (2 ∷ 2 ∷ [])
     ∷ greedily (50 ∷ 50 ∷ 50 ∷ 10 ∷ []) (limit 150) 0 (3 ∷ 1 ∷ [])
     ∷ balanced (45 ∷ 45 ∷ []) (limit 100) 10 1 (2 ∷ [])
+    ∷ greedily (45 ∷ 45 ∷ []) (limit 100) 10 (2 ∷ [])
     ∷ balanced (5 ∷ []) max-content 0 9 (1 ∷ [])
     ∷ balanced [] (limit 100) 0 1 []
     ∷ balanced (5 ∷ 6 ∷ []) max-content 0 0 (2 ∷ [])
-    -- P10 to P13
-    ∷ flexed 300 (flexible (float 100) none (float 1) (float 1) ∷ flexible (float 100) none (float 3) (float 1) ∷ []) (125 ∷ 175 ∷ []) 1
-    ∷ flexed 300 (flexible (float 100) none (float 1) (float 1) ∷ flexible (float 100) (float 120) (float 3) (float 1) ∷ []) (180 ∷ 120 ∷ []) 2
-    ∷ flexed 300 (flexible (float 100) none half (float 1) ∷ []) (200 ∷ []) 1
-    ∷ flexed 150 (flexible (float 100) none (float 0) (float 1) ∷ flexible (float 100) none (float 0) (float 1) ∷ []) (75 ∷ 75 ∷ []) 1
+    -- P10 to P13, with their free space and the rounds of all, of which document 01 gives those of P10 and P11
+    ∷ flexed 300 (flexible (float 100) none (float 1) (float 1) ∷ flexible (float 100) none (float 3) (float 1) ∷ []) (px 100) (125 ∷ 175 ∷ []) 1
+    ∷ flexed 300 (flexible (float 100) none (float 1) (float 1) ∷ flexible (float 100) (float 120) (float 3) (float 1) ∷ []) (px 100) (180 ∷ 120 ∷ []) 2
+    ∷ flexed 300 (flexible (float 100) none half (float 1) ∷ []) (px 200) (200 ∷ []) 1
+    ∷ flexed 150 (flexible (float 100) none (float 0) (float 1) ∷ flexible (float 100) none (float 0) (float 1) ∷ []) (negℤ (px 50)) (75 ∷ 75 ∷ []) 1
     -- P14
     ∷ spaced 3 60 5 SpaceBetween (0 ∷ 35 ∷ 35 ∷ [])
     -- P15
@@ -104,9 +107,9 @@ Holds (balanced sizes limit gap minimum counts) =
     Balanced limit (px gap) (map px sizes) minimum counts × ((d : List ℕ) → Balanced limit (px gap) (map px sizes) minimum d → d ≡ counts)
 Holds (greedily sizes limit gap counts) = greedy limit (px gap) (map px sizes) ≡ counts
 -- 9.7 of a line with no gap
-Holds (flexed inner items sizes rounds) =
-    ((old : List Float) → (free : ℤ) × Flexed (float inner) (float 0) items free rounds old (onto sizes old))
-    × ((free : ℤ) (r : ℕ) (old new : List Float) → Flexed (float inner) (float 0) items free r old new → (r ≡ rounds) × (new ≡ onto sizes old))
+Holds (flexed inner items free sizes rounds) =
+    ((old : List Float) → Flexed (float inner) (float 0) items free rounds old (onto sizes old))
+    × ((f : ℤ) (r : ℕ) (old new : List Float) → Flexed (float inner) (float 0) items f r old new → (f ≡ free) × (r ≡ rounds) × (new ≡ onto sizes old))
 -- the main axis of every such line, and there is one
 Holds (spaced n free gap keyword offsets) =
     ((inner : Float) × (l : Line) × Plain inner l n free gap)
