@@ -1,6 +1,6 @@
 -- The whole call: its verdict, the cells it leaves, and that its contract leaves no choice. Assumes nothing.
 use mathlib.Core.Path.{_≡_, refl, sym, ap, subst, _∙_}
-use mathlib.Core.Bool.{Bool, true, false, true≢false, _&&_}
+use mathlib.Core.Bool.{Bool, _&&_}
 use mathlib.Core.Logic.{_⊎_, inl, inr}
 use mathlib.Core.List.{List, [], _∷_, _++_, map, append-assoc}
 use Prim.Native.Nat.{ℕ, _+_, _-_, _*_, _≤_, _<_, zero-le}
@@ -10,16 +10,17 @@ use lib.Dec.{T, leb, leb→le}
 use lib.ListN.{length, take, drop, replicate, length-map, length-drop, length-replicate}
 use lib.IntN.{ℤ}
 use lib.Ieee.{Float, binary64, ofBits}
+use mir.Facts.{and-yes}
 use Rattle.grid.specs.Grid.{sixtyFourths}
 use Rattle.refusal.specs.Domain.{Number}
 use Rattle.refusal.specs.declared.Refusal.{Refusal}
-use Rattle.refusal.specs.declared.Refusal.the-variants.{TooManyItems}
 use Rattle.refusal.specs.declared.Verdict.{Verdict}
 use Rattle.refusal.specs.declared.Verdict.the-variants.{Passed}
 use Rattle.refusal.specs.declared.Verdict.the-variants as verdict
 use Rattle.refusal.specs.declared.Answer.{Answer}
 use Rattle.refusal.specs.declared.Answer.the-variants.{Done}
 use Rattle.refusal.specs.declared.Answer.the-variants as answer
+use Rattle.refusal.proofs.Verdicts.{not-both, same-why}
 use Rattle.breaklimit.specs.declared.AvailableSpace.{AvailableSpace}
 use Rattle.breaking.specs.Breaking.{Limit, limitOf}
 use Rattle.breaking.specs.Calls.{breakingVerdict, units}
@@ -34,14 +35,10 @@ use Rattle.rule.proofs.DpLaws.{lt-or-ge}
 use Rattle.rule.proofs.Unique.{balanced-one}
 
 -- ---- room
-both : (a b : Bool) → T (a && b) → T a × T b
-both true b t = (tt, t)
-both false b t = absurd t
-
 room-of : (n : ℕ) (l : Lent) → T (hasRoom n l) → Roomy n l
 room-of n l t =
-    let p = both (leb n (length (l .counts))) (leb (n * n + 3 * n) (length (l .work)) && leb (3 * n) (length (l .sums))) t in
-    let q = both (leb (n * n + 3 * n) (length (l .work))) (leb (3 * n) (length (l .sums))) (p .1) in
+    let p = and-yes (leb n (length (l .counts))) (leb (n * n + 3 * n) (length (l .work)) && leb (3 * n) (length (l .sums))) t in
+    let q = and-yes (leb (n * n + 3 * n) (length (l .work))) (leb (3 * n) (length (l .sums))) (p .1) in
     (leb→le n (length (l .counts)) (p .0), leb→le (n * n + 3 * n) (length (l .work)) (q .0), leb→le (3 * n) (length (l .sums)) (q .1))
 
 -- the search has room: in the lent lists, and in those of the frame, which have `most` cells
@@ -119,22 +116,6 @@ given codes limit gap sizes b e =
     (p .0, room-of (length sizes) b (subst T (sym (p .1)) tt))
 
 -- ---- the contract, by the verdict
-isPassed : Verdict → Bool
-isPassed Passed = true
-isPassed (verdict.Refused why) = false
-
-why-of : Verdict → Refusal
-why-of Passed = TooManyItems
-why-of (verdict.Refused why) = why
-
-not-both : {v : Verdict} {why : Refusal} → v ≡ Passed → v ≡ verdict.Refused why → ⊥
-unfolding isPassed
-not-both p q = true≢false (ap isPassed (sym p ∙ q))
-
-same-why : {v : Verdict} {why other : Refusal} → v ≡ verdict.Refused why → v ≡ verdict.Refused other → why ≡ other
-unfolding why-of
-same-why p q = ap why-of (sym p ∙ q)
-
 module _ (limit : AvailableSpace) (gap : Float) (minimum : ℕ) (sizes : List Float) (b : Lent) where
   pub divides-one : (k j : ℕ) (a c : Lent) → Divides limit gap minimum sizes b k a → Divides limit gap minimum sizes b j c → (k ≡ j) × (a ≡ c)
   divides-one k j a c p q =

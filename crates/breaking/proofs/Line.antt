@@ -3,9 +3,8 @@
 use mathlib.Core.Path.{_≡_, sym, ap, _∙_, subst}
 use mathlib.Core.Bool.{Bool, true, false, cond}
 use mathlib.Core.List.{List, []}
-use Prim.Native.Nat.{ℕ, zero, suc, _+_, _≤_, _<_}
-use mathlib.Core.Logic.{⊎-elim}
-use native.Mathlib.Nat.{le-trans, le-refl, le-of-eq, le-of-suc-le-suc, le-add-right, eq-or-lt-of-le, add-zero}
+use Prim.Native.Nat.{ℕ, suc, _+_, _≤_, _<_}
+use native.Mathlib.Nat.{le-trans, add-zero}
 use native.Mathlib.Numerals.{add-one}
 use native.Mathlib.Omega.{arith}
 use lib.Dec.{T, lit≤}
@@ -18,19 +17,12 @@ use Rattle.grid.specs.Values.{At}
 use Rattle.grid.proofs.Meaning.{at-of-grid}
 use Rattle.grid.proofs.Sums.{add-grid, abs-add}
 use Rattle.grid.specs.Floats.{sumUpTo}
-use Rattle.refusal.proofs.Sweep.{sum-more}
+use Rattle.grid.proofs.UpTo.{sum-more, sum-past}
 use Rattle.breaklimit.specs.declared.AvailableSpace.{AvailableSpace}
 use Rattle.breaking.specs.Breaking.{limitOf, fits}
 use Rattle.breaking.specs.Calls.{units}
 use Rattle.breaking.specs.Steps.{Breakable, LineEnd}
 use Rattle.breaking.proofs.Taken.{line-one, running, taken-running}
-
--- the sum of the first is at most the sum of more
-sum-le : (f : ℕ → ℕ) (i n : ℕ) → i ≤ n → sumUpTo f i ≤ sumUpTo f n
-unfolding sumUpTo
-sum-le f zero zero h = le-refl 0
-sum-le f (suc i) zero h = absurd (omega arith)
-sum-le f i (suc n) h = ⊎-elim (λ e. le-of-eq (ap (sumUpTo f) e)) (λ l. le-trans (sum-le f i n (le-of-suc-le-suc l)) (le-add-right (sumUpTo f n) (f n))) (eq-or-lt-of-le h)
 
 -- the magnitude of a float in sixty-fourths
 abbrev magnitude : Float → ℕ
@@ -82,7 +74,7 @@ module _ (sizes : List Float) (gap : Float) (limit : AvailableSpace) (given : Br
     next-is =
         let s = getD sizes i nan in
         let u = sum-more (λ k. magnitude (getD sizes k nan) + magnitude gap) i in
-        let t = sum-le (λ k. magnitude (getD sizes k nan) + magnitude gap) (i + 1) (length sizes) (omega arith) in
+        let t = sum-past (λ k. magnitude (getD sizes k nan) + magnitude gap) i (length sizes) (omega arith) in
         let w = given .small in
         let v = inv .small in
         let b₁ = abs-add (sixtyFourths s) (sixtyFourths gap) in

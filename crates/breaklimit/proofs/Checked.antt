@@ -1,18 +1,14 @@
 -- The checks of a break limit: the least of the marks that the call takes is document 01's order of checks on its input. Assumes nothing.
-use mathlib.Core.Path.{_≡_, refl, sym, ap, _∙_}
+use mathlib.Core.Path.{_≡_, sym, ap, _∙_}
 use mathlib.Core.List.{List, [], _++_, append-nil}
 use Prim.Native.Nat.{ℕ, min, zero-le}
-use Rattle.refusal.specs.declared.Verdict.{Verdict}
-use Rattle.refusal.specs.declared.Verdict.the-variants.{Passed, Refused}
-use Rattle.refusal.specs.Domain.{Number, then}
+use Rattle.refusal.specs.declared.Verdict.the-variants.{Passed}
+use Rattle.refusal.specs.Domain.{Number}
 use Rattle.refusal.specs.Marks.{leastOf, leastUpTo, leastMark, judged}
 use Rattle.refusal.proofs.Checks.{judged-checked, least-append}
+use Rattle.refusal.proofs.Verdicts.{then-last}
 use Rattle.breaklimit.specs.declared.Query.{Query}
 use Rattle.breaklimit.specs.Limit.{spaceNumbers, boundNumbers, limitInput, limitVerdict}
-
-then-last : (v : Verdict) → then v Passed ≡ v
-then-last Passed = refl
-then-last (Refused why) = refl
 
 none-more : (l : List Number) → leastOf l 0 ≡ min (leastOf l 0) 6144
 unfolding leastOf

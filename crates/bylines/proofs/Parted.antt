@@ -7,9 +7,9 @@ use native.Mathlib.Omega.{arith}
 use lib.ListN.{length, getD, take, drop, take-append-drop, drop-of-length-le}
 use lib.Seq.{drop-nil}
 use borrow.Rule.Slice.PartMut.{midOf, putMid, same-len-mid, mid-len, drop-put}
-use Rattle.refusal.proofs.Sweep.{sum-none, sum-more}
+use Rattle.grid.proofs.UpTo.{sum-none, sum-more, sum-past}
 use Rattle.flexlines.specs.Lines.{lineStart, part}
-use Rattle.flexlines.proofs.Going.{ends-before, other-cells, own-cells, later}
+use Rattle.flexlines.proofs.Going.{other-cells, own-cells, later}
 use Rattle.flexlines.proofs.Alone.{by-parts}
 use Rattle.grid.specs.Floats.{each}
 use Rattle.align.specs.Lists.{overwritten}
@@ -31,7 +31,7 @@ start-next counts {from} {to} {j} h = h .ends ∙ ap (λ (k : ℕ). k + getD cou
 
 -- a line lies within the items
 pub ends-within : {counts : List ℕ} {n from to j : ℕ} → Division counts n → j < length counts → Here counts from to j → to ≤ n
-ends-within {counts} {n} {from} {to} {j} d h l = subst (λ (k : ℕ). to ≤ k) d (subst (λ (k : ℕ). k ≤ lineStart counts (length counts)) (sym (l .ends ∙ ap (λ (k : ℕ). k + getD counts j 0) (l .starts))) (ends-before (λ i. getD counts i 0) j (length counts) h))
+ends-within {counts} {n} {from} {to} {j} d h l = subst (λ (k : ℕ). to ≤ k) d (subst (λ (k : ℕ). k ≤ lineStart counts (length counts)) (sym (l .ends ∙ ap (λ (k : ℕ). k + getD counts j 0) (l .starts))) (sum-past (λ i. getD counts i 0) j (length counts) h))
 
 -- ---- a line's cells
 
@@ -73,7 +73,7 @@ module _ {A : Type 0} (counts : List ℕ) where
 
     pub step : Step counts new cells after k
     step = record {
-      earlier = λ j m. sym (other-cells (lineStart counts j) (getD counts j 0) from to new cells (subst (λ (i : ℕ). lineStart counts j + getD counts j 0 ≤ i) (sym (h .starts)) (ends-before (λ i. getD counts i 0) j k m)) forward in-new many);
+      earlier = λ j m. sym (other-cells (lineStart counts j) (getD counts j 0) from to new cells (subst (λ (i : ℕ). lineStart counts j + getD counts j 0 ≤ i) (sym (h .starts)) (sum-past (λ i. getD counts i 0) j k m)) forward in-new many);
       own = sym (ap (λ (i : ℕ). take (getD counts k 0) (drop i after)) (sym (h .starts)) ∙ own-cells from (getD counts k 0) to new cells (h .ends) in-new many);
     }
 

@@ -2,13 +2,11 @@
 use mathlib.Core.Path.{_≡_, sym, ap, ap₂, _∙_}
 use mathlib.Core.List.{List}
 use Prim.Native.Nat.{ℕ}
-use native.Mathlib.Omega.{arith}
 use lib.IntN.{ℤ}
 use lib.Ieee.{Float}
 use Rattle.grid.specs.declared.Sixtyfourths.{Sixtyfourths}
 use Rattle.refusal.specs.declared.Verdict.{Verdict}
-use Rattle.refusal.specs.declared.Verdict.the-variants.{Passed}
-use Rattle.refusal.specs.declared.Verdict.the-variants as verdict
+use Rattle.refusal.proofs.Verdicts.{not-both, same-why}
 use Rattle.flexing.specs.declared.Item.{Item}
 use Rattle.flexcalls.specs.declared.FlexAnswer.{FlexAnswer}
 use Rattle.flexcalls.specs.declared.FlexAnswer.the-variants.{Done, Refused}
@@ -24,18 +22,9 @@ units a b e = ap make e
 
 -- any two results that the contract allows are equal
 pub one-answer : (v : Verdict) (inner gap : Float) (items : List Item) (old : List Float) (r s : FlexAnswer) (a b : List Float) → Answered v inner gap items r old a → Answered v inner gap items s old b → (r ≡ s) × (a ≡ b)
-one-answer v inner gap items old (Refused w) (Refused x) a b p q = (refused (sym (p .0) ∙ q .0), p .1 ∙ sym (q .1))
-  where
-    refused : verdict.Refused w ≡ verdict.Refused x → Refused w ≡ Refused x
-    refused e = cc
-one-answer v inner gap items old (Refused w) (Done f n) a b p q = absurd (never (sym (p .0) ∙ q .0))
-  where
-    never : verdict.Refused w ≡ Passed → ⊥
-    never e = let z : _≡_ {A = ℕ} 0 1 = cc in omega arith
-one-answer v inner gap items old (Done f n) (Refused w) a b p q = absurd (never (sym (q .0) ∙ p .0))
-  where
-    never : verdict.Refused w ≡ Passed → ⊥
-    never e = let z : _≡_ {A = ℕ} 0 1 = cc in omega arith
+one-answer v inner gap items old (Refused w) (Refused x) a b p q = (ap Refused (same-why (p .0) (q .0)), p .1 ∙ sym (q .1))
+one-answer v inner gap items old (Refused w) (Done f n) a b p q = absurd (not-both (q .0) (p .0))
+one-answer v inner gap items old (Done f n) (Refused w) a b p q = absurd (not-both (p .0) (q .0))
 one-answer v inner gap items old (Done f m) (Done g n) a b p q =
     let e = same-answer inner gap items old (p .1) (q .1) in
     (ap₂ (λ (x : Sixtyfourths) (k : ℕ). Done x k) (units f g (e .0)) (e .1), e .2)

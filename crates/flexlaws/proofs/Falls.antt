@@ -85,7 +85,7 @@ fewer sh t (c ∷ l) = go (c .frozen) refl (freezes t (violation sh (c .item))) 
 
 -- ---- some item freezes
 
-all-map : {A : Type 0} {P Q : A → Type 0} → ((a : A) → P a → Q a) → (l : List A) → All P l → All Q l
+pub all-map : {A : Type 0} {P Q : A → Type 0} → ((a : A) → P a → Q a) → (l : List A) → All P l → All Q l
 all-map f [] h = tt
 all-map f (a ∷ l) h = (f a (h .0), all-map f l (h .1))
 

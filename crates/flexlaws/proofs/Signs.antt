@@ -10,6 +10,7 @@ use lib.Dec.{T, ltb, ltb→lt, nltb→le, lt→ltb}
 use lib.Pow.{pow-pos}
 use lib.IntN.{ℤ}
 use lib.Ieee.{Float, nan, inf, fin, Format, binary32, prec, low, up, down, units, odd, round, sum, add, lt, eq, level, ofBits}
+use lib.Ieee.Bits.{is-true}
 use lib.Ieee.Fits.{up-pos, down-pos, round-is}
 use lib.Ieee.Exact.{HasValue}
 use Rattle.grid.proofs.Exact.{round-at}
@@ -131,10 +132,6 @@ not-add f g (fin s m e) (fin t n d) p q =
 
 zero-times : (a b : ℕ) → 0 * a * b ≡ 0
 zero-times a b = ap (λ (n : ℕ). n * b) (zero-mul a) ∙ zero-mul b
-
-is-true : (b : Bool) → T b → b ≡ true
-is-true true t = refl
-is-true false t = absurd t
 
 is-false : (b : Bool) → (T b → ⊥) → b ≡ false
 is-false true f = absurd (f tt)

@@ -16,7 +16,7 @@ use lib.IntN.{ℤ, pos, negsuc, negℤ, natAbs, _+ℤ_, _-ℤ_, _*ℤ_, +ℤ-ass
 use lib.Ieee.{Float, nan, inf, fin, binary32, mul, lt, ofInt, ofBits}
 use Rattle.grid.specs.Grid.{sixtyFourths}
 use Rattle.grid.specs.Values.{At, Length}
-use Rattle.grid.proofs.Exact.{add-at, mul-at}
+use Rattle.grid.proofs.Exact.{abs-neg, add-at, mul-at}
 use Rattle.grid.proofs.Meaning.{at-of-grid, grid-of-at, none-at}
 use Rattle.grid.proofs.Sums.{abs-add}
 use Rattle.grid.proofs.Convert.{ofInt-at, back32}
@@ -168,11 +168,6 @@ abs-sub a b p q = le-trans {m = natAbs a + natAbs (negℤ b)} (abs-add a (negℤ
   where
     sum : (a b : ℕ) → a ≤ 16777216 → b ≤ 16777216 → a + b ≤ 33554432
     sum a b p q = omega arith
-
-    abs-neg : (z : ℤ) → natAbs (negℤ z) ≡ natAbs z
-    abs-neg (pos zero) = refl
-    abs-neg (pos (suc n)) = refl
-    abs-neg (negsuc n) = refl
 
 abbrev pub bits : ℤ → ℤ
 bits z = toZ w32 (ofZ w32 z)

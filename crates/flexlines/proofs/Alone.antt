@@ -13,11 +13,12 @@ use lib.IntN.{ℤ, pos}
 use lib.Ieee.{Float}
 use borrow.Author.Tests.{ltb-true, ltb-false}
 use Rattle.grid.specs.Floats.{sumUpTo}
+use Rattle.grid.proofs.UpTo.{sum-ext}
 use Rattle.flexing.specs.declared.Item.{Item}
 use Rattle.flexlaws.proofs.Determined.{same-answer}
 use Rattle.flexlines.specs.Lines.{lineStart, lineItems, part, Beyond, FlexedLines}
 use Rattle.flexlines.specs.Alone.{SameFlexed}
-use Rattle.flexlines.proofs.Going.{sum-ext, flexed-as}
+use Rattle.flexlines.proofs.Going.{flexed-as}
 
 -- ---- a line by itself
 

@@ -1,6 +1,6 @@
 -- The counts of the lines: the loop that adds them up, and what it shows. Assumes nothing.
 use mathlib.Core.Path.{_≡_, refl, sym, ap, ap₂, _∙_, subst}
-use mathlib.Core.Bool.{Bool, true, false, _&&_, false≢true}
+use mathlib.Core.Bool.{Bool, true, _&&_}
 use mathlib.Core.List.{List}
 use Prim.Native.Nat.{ℕ, zero, suc, _+_, _*_, _≤_, _<_, zero-le}
 use native.Mathlib.Nat.{le-antisymm}
@@ -10,7 +10,8 @@ use lib.Dec.{eqb, leb}
 use lib.ListN.{length, getD}
 use borrow.Author.Count.{below-more}
 use borrow.Author.Tests.{leb-true, eqb-true}
-use Rattle.refusal.proofs.Sweep.{sum-none, sum-more}
+use Rattle.grid.proofs.UpTo.{sum-none, sum-more}
+use Rattle.refusal.proofs.Marked.{and-true}
 use Rattle.flexlines.specs.Lines.{lineStart, positive, divides}
 
 -- ---- the loop over the counts
@@ -44,18 +45,14 @@ counting-all counts ok sum j n h p =
 
 -- ---- counts that divide the items
 
-both : (a b : Bool) → (a && b) ≡ true → (a ≡ true) × (b ≡ true)
-both true b e = (refl, e)
-both false b e = absurd (false≢true e)
-
 each-positive : (counts : List ℕ) (k : ℕ) → positive counts k ≡ true → (j : ℕ) → j < k → 0 < getD counts j 0
 unfolding positive
 each-positive counts zero e j h = absurd (omega arith)
 each-positive counts (suc k) e j h =
-    let p = both (leb 1 (getD counts k 0)) (positive counts k) e in
+    let p = and-true (leb 1 (getD counts k 0)) (positive counts k) e in
     below-more (λ (i : ℕ). 0 < getD counts i 0) k (each-positive counts k (p .1)) (leb-true 1 (getD counts k 0) (p .0)) j (subst (λ (m : ℕ). j < m) (sym (add-one k)) h)
 
 pub divides-so : (counts : List ℕ) (n : ℕ) → divides counts n ≡ true → (lineStart counts (length counts) ≡ n) × ((j : ℕ) → j < length counts → 0 < getD counts j 0)
 divides-so counts n e =
-    let p = both (eqb (lineStart counts (length counts)) n) (positive counts (length counts)) e in
+    let p = and-true (eqb (lineStart counts (length counts)) n) (positive counts (length counts)) e in
     (eqb-true (lineStart counts (length counts)) n (p .0), each-positive counts (length counts) (p .1))

@@ -1,9 +1,8 @@
 -- The loop over lines: the lines before this one are flexed and outlive a later line's cells, by the order of their ranges. Assumes nothing.
 use mathlib.Core.Path.{_≡_, refl, sym, ap, ap₂, _∙_, subst}
-use mathlib.Core.Logic.{_⊎_, inl, inr}
 use mathlib.Core.List.{List, [], _++_}
 use Prim.Native.Nat.{ℕ, zero, suc, _+_, _-_, _≤_, _<_, zero-le}
-use native.Mathlib.Nat.{le-refl, le-trans, zero-add, ne-of-lt, ne-of-gt, eq-or-lt-of-le, le-of-suc-le-suc, le-antisymm}
+use native.Mathlib.Nat.{le-refl, le-trans, zero-add, ne-of-lt, ne-of-gt, le-antisymm}
 use native.Mathlib.Omega.{arith}
 use lib.ListN.{length, getD, take, drop, set, length-set, drop-of-length-le}
 use lib.Seq.{getD-set-same, getD-set-other, take-add, take-take, take-at, drop-at, drop-nil, drop-drop, length-take-le}
@@ -12,7 +11,7 @@ use lib.Ieee.{Float}
 use borrow.Author.Count.{below-none, below-more}
 use borrow.Rule.Slice.PartMut.{midOf, putMid, postOf, same-len-mid, mid-len, take-put, drop-put}
 use Rattle.grid.specs.Floats.{sumUpTo, each}
-use Rattle.refusal.proofs.Sweep.{sum-none, sum-more}
+use Rattle.grid.proofs.UpTo.{sum-none, sum-more, sum-ext, sum-past}
 use Rattle.flexing.specs.declared.Item.{Item}
 use Rattle.flexing.specs.Flex.{outerSum, Flexed, targets as targetsOf}
 use Rattle.flexing.specs.Accepted.{Accepted}
@@ -23,21 +22,6 @@ use Rattle.itemtable.proofs.Each.{length-each, each-ext, outer-snoc}
 use Rattle.itemtable.proofs.Columns.{every-each}
 
 -- ---- the ranges
-
-pub sum-ext : (f g : ℕ → ℕ) (n : ℕ) → ((i : ℕ) → i < n → f i ≡ g i) → sumUpTo f n ≡ sumUpTo g n
-unfolding sumUpTo
-sum-ext f g zero h = refl
-sum-ext f g (suc n) h = ap₂ (λ (a b : ℕ). a + b) (sum-ext f g n (λ i l. h i (omega arith))) (h n (omega arith))
-
--- a line ends where a later one starts, or before
-pub ends-before : (f : ℕ → ℕ) (j n : ℕ) → j < n → sumUpTo f j + f j ≤ sumUpTo f n
-unfolding sumUpTo
-ends-before f j zero h = absurd (omega arith)
-ends-before f j (suc n) h = go (eq-or-lt-of-le (le-of-suc-le-suc h)) (λ l. ends-before f j n l)
-  where
-    go : (j ≡ n) ⊎ (j < n) → (j < n → sumUpTo f j + f j ≤ sumUpTo f n) → sumUpTo f j + f j ≤ sumUpTo f n + f n
-    go (inr l) k = omega (arith, k l)
-    go (inl e) k = subst (λ (i : ℕ). sumUpTo f j + f j ≤ sumUpTo f i + f i) e (le-refl (sumUpTo f j + f j))
 
 -- lines that are not empty are no more than their items
 pub lines-few : (f : ℕ → ℕ) (n : ℕ) → ((j : ℕ) → j < n → 0 < f j) → n ≤ sumUpTo f n
@@ -76,7 +60,7 @@ module _ (inner gap : Float) (t : List Float) (n : ℕ) (counts : List ℕ) (tar
   }
 
   pub line-ends : (j : ℕ) → j < length counts → lineStart counts j + getD counts j 0 ≤ n
-  line-ends j h = subst (λ (k : ℕ). lineStart counts j + getD counts j 0 ≤ k) (pre .divided .whole) (ends-before (λ i. getD counts i 0) j (length counts) h)
+  line-ends j h = subst (λ (k : ℕ). lineStart counts j + getD counts j 0 ≤ k) (pre .divided .whole) (sum-past (λ i. getD counts i 0) j (length counts) h)
 
   pub lines-within : length counts ≤ n
   lines-within = counts-few inner gap t n counts targets free rounds (pre .divided)
@@ -161,7 +145,7 @@ module _ (inner gap : Float) (item : ℕ → Item) (counts : List ℕ) (targets�
           flowed = record {
             line = below-more (λ (j : ℕ). Flexed inner gap (lineItems item counts j) (getD free' j (pos 0)) (getD rounds' j 0) [] (part counts j now')) line
                 (λ j l. flexed-as inner gap _ _ _ _ _ _ [] [] _ _ refl (sym (getD-set-other free line j f (pos 0) (ne-of-lt l))) (sym (getD-set-other rounds line j r 0 (ne-of-lt l))) refl
-                (sym (other-cells (lineStart counts j) (getD counts j 0) start e targets cells (subst (λ (k : ℕ). lineStart counts j + getD counts j 0 ≤ k) (sym (g .here)) (ends-before (λ i. getD counts i 0) j line l)) (omega arith) room lp))
+                (sym (other-cells (lineStart counts j) (getD counts j 0) start e targets cells (subst (λ (k : ℕ). lineStart counts j + getD counts j 0 ≤ k) (sym (g .here)) (sum-past (λ i. getD counts i 0) j line l)) (omega arith) room lp))
                 (g .flowed .line j l))
                 (flexed-as inner gap _ _ _ _ _ _ (midOf start (e - start) targets) [] _ _
                 (ap (λ (k : ℕ). each c (λ i. item (k + i))) (g .here))
@@ -263,7 +247,7 @@ pub lines-as : (inner gap : Float) (item item' : ℕ → Item) (n : ℕ) (counts
     → FlexedLines inner gap item n counts sum targets₀ free₀ rounds₀ targets free rounds → FlexedLines inner gap item' n counts sum targets₀ free₀ rounds₀ targets free rounds
 lines-as inner gap item item' n counts sum targets₀ free₀ rounds₀ targets free rounds w h p = record {
   line = λ j l.
-      let e = ends-before (λ i. getD counts i 0) j (length counts) l in
+      let e = sum-past (λ i. getD counts i 0) j (length counts) l in
       flexed-as inner gap _ _ _ _ _ _ [] [] _ _ (each-ext (getD counts j 0) (λ i. item (lineStart counts j + i)) (λ i. item' (lineStart counts j + i)) (λ i m. h (lineStart counts j + i) (omega arith))) refl refl refl refl (p .line j l);
   sum-is = p .sum-is;
   long = p .long;

@@ -1,16 +1,15 @@
 -- In accepted runs a line's free space, targets and rounds depend only on the container, the line's range and its own items; and the contract of
 -- the call over many lines leaves no choice. By the same of lines. Assumes nothing.
-use mathlib.Core.Path.{_≡_, sym, ap₂, _∙_}
+use mathlib.Core.Path.{_≡_, sym, ap, ap₂, _∙_}
 use mathlib.Core.List.{List}
-use native.Mathlib.Omega.{arith}
 use Prim.Native.Nat.{ℕ, _+_, _<_}
 use lib.ListN.{length, getD}
 use lib.IntN.{ℤ}
 use lib.Ieee.{Float}
 use Rattle.grid.specs.Grid.{cleaned}
 use Rattle.refusal.specs.Domain.{checked, summed}
+use Rattle.refusal.proofs.Verdicts.{not-both, same-why}
 use Rattle.refusal.specs.declared.Verdict.the-variants.{Passed}
-use Rattle.refusal.specs.declared.Verdict.the-variants as verdict
 use Rattle.refusal.specs.declared.Answer.{Answer}
 use Rattle.refusal.specs.declared.Answer.the-variants.{Done, Refused}
 use Rattle.refusal.proofs.Checks.{accepted, then-passed}
@@ -52,18 +51,9 @@ whole-of inner gap counts ls room e =
 -- any two results that the contract allows are equal
 pub lines-determined : (inner gap : Float) (counts : List ℕ) (ls : Lists) (targets₀ : List Float) (free₀ : List ℤ) (rounds₀ : List ℕ) (r s : Answer) (a b : List Float) (f g : List ℤ) (m n : List ℕ)
     → FlexedByLine inner gap counts ls r targets₀ free₀ rounds₀ a f m → FlexedByLine inner gap counts ls s targets₀ free₀ rounds₀ b g n → (r ≡ s) × (a ≡ b) × (f ≡ g) × (m ≡ n)
-lines-determined inner gap counts ls targets₀ free₀ rounds₀ (Refused w) (Refused x) a b f g m n p q = (refused (sym (p .0) ∙ q .0), p .1 ∙ sym (q .1), p .2 ∙ sym (q .2), p .3 ∙ sym (q .3))
-  where
-    refused : verdict.Refused w ≡ verdict.Refused x → Refused w ≡ Refused x
-    refused e = cc
-lines-determined inner gap counts ls targets₀ free₀ rounds₀ (Refused w) (Done k t) a b f g m n p q = absurd (never (sym (p .0) ∙ q .0))
-  where
-    never : verdict.Refused w ≡ Passed → ⊥
-    never e = let z : _≡_ {A = ℕ} 0 1 = cc in omega arith
-lines-determined inner gap counts ls targets₀ free₀ rounds₀ (Done k t) (Refused w) a b f g m n p q = absurd (never (sym (q .0) ∙ p .0))
-  where
-    never : verdict.Refused w ≡ Passed → ⊥
-    never e = let z : _≡_ {A = ℕ} 0 1 = cc in omega arith
+lines-determined inner gap counts ls targets₀ free₀ rounds₀ (Refused w) (Refused x) a b f g m n p q = (ap Refused (same-why (p .0) (q .0)), p .1 ∙ sym (q .1), p .2 ∙ sym (q .2), p .3 ∙ sym (q .3))
+lines-determined inner gap counts ls targets₀ free₀ rounds₀ (Refused w) (Done k t) a b f g m n p q = absurd (not-both (q .0) (p .0))
+lines-determined inner gap counts ls targets₀ free₀ rounds₀ (Done k t) (Refused w) a b f g m n p q = absurd (not-both (p .0) (q .0))
 lines-determined inner gap counts ls targets₀ free₀ rounds₀ (Done k t) (Done k' t') a b f g m n p q =
     let e = one-flexed counts (whole-of inner gap counts ls (roomOf targets₀ free₀ rounds₀) (p .0)) (p .2) (q .2) in
     (ap₂ (λ (x y : ℕ). Done x y) (p .1 ∙ sym (q .1)) (e .sums), e .targets, e .free, e .rounds)

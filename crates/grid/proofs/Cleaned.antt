@@ -14,7 +14,7 @@ use lib.Ieee.Exact.{HasValue, round-exact}
 use borrow.Author.Tests.{lt-ltb, le-ltb}
 use Rattle.grid.specs.Grid.{signed, cleaned}
 use Rattle.grid.specs.Values.{At, zeroPx}
-use Rattle.grid.proofs.Meaning.{fits-size, pow-le}
+use Rattle.grid.proofs.Meaning.{fits-size, pow-le, signed-zero}
 use Rattle.grid.proofs.Convert.{tidy, clean-at, sign-of}
 use Rattle.grid.proofs.Unique.{same-float}
 
@@ -46,7 +46,7 @@ round-own f s m e t =
     (mul-lt-mul-of-pos-right (fits-below f s m e t) (pow-pos (low f))))) in
     round-exact f s (suc m * up e) (down e) (suc m) (j .0) (down-pos e) (z .0) bound same
 
--- a number above 0, of either sign, and nothing
+-- a number above 0, of signed-zero sign, and nothing
 sum-none : (f : Format) (s : Bool) (X N c : ℕ) → 0 < X → N ≡ 0 → sum f s X false N c ≡ round f s X c
 unfolding sum
 sum-none f false X N c h e = ap (λ (n : ℕ). round f false n c) (omega arith)
@@ -94,10 +94,6 @@ cleaned-at u {x} {z} p = go x (p .value)
     nil zero e h = refl
     nil (suc k) e h = let l : 0 < suc k * down e = mul-pos (zero-lt-suc k) (down-pos e) in let o : 0 * up e * u ≡ 0 = ap (λ (n : ℕ). n * u) (zero-mul (up e)) ∙ zero-mul u in absurd (omega arith)
 
-    either : (s : Bool) → signed s 0 ≡ pos 0
-    either false = refl
-    either true = refl
-
     go : (x : Float) → HasValue x (p .sign) (p .size) u → At u (cleaned x) z
     go nan v = absurd v
     go (inf s) v = absurd v
@@ -105,6 +101,6 @@ cleaned-at u {x} {z} p = go x (p .value)
       sign = false;
       size = 0;
       value = (refl, ap (λ (n : ℕ). n * u) (zero-mul (up e)) ∙ zero-mul u ∙ sym (zero-mul (down e)));
-      total = sym (either (p .sign)) ∙ ap (signed (p .sign)) (sym (nil (p .size) e (v .1))) ∙ p .total;
+      total = sym (signed-zero (p .sign)) ∙ ap (signed (p .sign)) (sym (nil (p .size) e (v .1))) ∙ p .total;
     }
     go (fin s (suc m) e) v = record { sign = p .sign; size = p .size; value = v; total = p .total }

@@ -1,12 +1,13 @@
 -- A question asked of every item: of one item more, and that a list whose numbers are all fine has no mark. Assumes nothing.
 use mathlib.Core.Path.{_≡_, refl, ap, ap₂, _∙_}
-use mathlib.Core.Bool.{Bool, true, false, not, _&&_, _||_, false≢true}
+use mathlib.Core.Bool.{Bool, true, false, not, _&&_, _||_}
 use Prim.Native.Nat.{ℕ, zero, suc, _+_, min}
 use native.Mathlib.Nat.{min-eq-left, le-refl}
 use native.Mathlib.Numerals.{add-one}
 use lib.Dec.{leb}
 use borrow.Author.Tests.{le-ltb, leb-true}
 use Rattle.refusal.specs.Domain.{Number, code, notFinite, offGrid, outOfRange}
+use Rattle.refusal.proofs.Marked.{and-true}
 use Rattle.refusal.specs.Marks.{mark, leastOf, leastUpTo}
 use Rattle.refusal.specs.Optional.{optional}
 use Rattle.single.specs.Bounds.{fine}
@@ -21,15 +22,11 @@ pub every-more : (p : ℕ → Bool) (i : ℕ) → every p (i + 1) ≡ (every p i
 unfolding every
 every-more p i = ap (every p) (add-one i)
 
-both : (a b : Bool) → (a && b) ≡ true → (a ≡ true) × (b ≡ true)
-both true b e = (refl, e)
-both false b e = absurd (false≢true e)
-
 -- f are the marks of items that p is asked of
 pub no-marks : (f : ℕ → ℕ) (p : ℕ → Bool) → ((i : ℕ) → p i ≡ true → f i ≡ 6144) → (n : ℕ) → every p n ≡ true → leastUpTo f n ≡ 6144
 unfolding every leastUpTo
 no-marks f p h zero e = refl
-no-marks f p h (suc n) e = let q = both (every p n) (p n) e in ap₂ min (no-marks f p h n (q .0)) (h n (q .1)) ∙ min-eq-left (le-refl 6144)
+no-marks f p h (suc n) e = let q = and-true (every p n) (p n) e in ap₂ min (no-marks f p h n (q .0)) (h n (q .1)) ∙ min-eq-left (le-refl 6144)
 
 -- a number that may be absent
 pub given-none : (given : Bool) (x : Number) (place : ℕ) → (not given || fine x) ≡ true → leastOf (optional given x) place ≡ 6144

@@ -1,12 +1,12 @@
 -- The contract of the pass leaves no choice: any two results that it allows are equal. Assumes nothing.
-use mathlib.Core.Path.{_≡_, sym, _∙_}
+use mathlib.Core.Path.{_≡_, sym, ap, _∙_}
 use mathlib.Core.Bool.{Bool}
 use mathlib.Core.List.{List}
 use Prim.Native.Nat.{ℕ}
-use native.Mathlib.Omega.{arith}
 use lib.ListN.{length}
 use lib.Ieee.{Float}
 use Rattle.refusal.specs.Domain.{checked, shape, summed}
+use Rattle.refusal.proofs.Verdicts.{not-both, same-why}
 use Rattle.refusal.specs.declared.Verdict.the-variants as verdict
 use Rattle.refusal.proofs.Checks.{then-passed}
 use Rattle.container.specs.declared.Container.{Container}
@@ -28,18 +28,9 @@ passed-shape c n x codes room e = then-passed (shape n room) (checked (passInput
 
 -- ANY TWO RESULTS THAT THE CONTRACT ALLOWS ARE EQUAL
 pub one-pass : (c : Container) (n : ℕ) (x : List Float) (codes : List ℕ) (b : Lent) (r s : PassAnswer) (a d : Lent) → PassCall c n x codes b r a → PassCall c n x codes b s d → (r ≡ s) × (a ≡ d)
-one-pass c n x codes b (Refused w) (Refused z) a d p q = (refused (sym (p .0) ∙ q .0), p .1 ∙ sym (q .1))
-  where
-    refused : verdict.Refused w ≡ verdict.Refused z → Refused w ≡ Refused z
-    refused e = cc
-one-pass c n x codes b (Refused w) (Done k sum inner) a d p q = absurd (never (sym (p .0) ∙ q .0))
-  where
-    never : verdict.Refused w ≡ verdict.Passed → ⊥
-    never e = let z : _≡_ {A = ℕ} 0 1 = cc in omega arith
-one-pass c n x codes b (Done k sum inner) (Refused w) a d p q = absurd (never (sym (q .0) ∙ p .0))
-  where
-    never : verdict.Refused w ≡ verdict.Passed → ⊥
-    never e = let z : _≡_ {A = ℕ} 0 1 = cc in omega arith
+one-pass c n x codes b (Refused w) (Refused z) a d p q = (ap Refused (same-why (p .0) (q .0)), p .1 ∙ sym (q .1))
+one-pass c n x codes b (Refused w) (Done k sum inner) a d p q = absurd (not-both (q .0) (p .0))
+one-pass c n x codes b (Done k sum inner) (Refused w) a d p q = absurd (not-both (p .0) (q .0))
 one-pass c n x codes b (Done k sum inner) (Done k' sum' inner') a d p q =
     let room = passRoom n (breakMode c) (length x) (length codes) (length (b .placed)) (length (b .lines)) (length (b .counts)) (length (b .rounds)) (length (b .free)) (length (b .work)) (length (b .sums)) in
     let g = roomy-of n (breakMode c) (length x) (length codes) (length (b .placed)) (length (b .lines)) (length (b .counts)) (length (b .rounds)) (length (b .free)) (length (b .work)) (length (b .sums)) (passed-shape c n x codes room (p .0)) in

@@ -1,12 +1,13 @@
 -- The room of a call, list by list: what the tests of the lengths add up to, and what it shows. Assumes nothing.
-use mathlib.Core.Path.{_≡_, refl, sym, ap, _∙_}
-use mathlib.Core.Bool.{Bool, true, false, _&&_, false≢true}
+use mathlib.Core.Path.{_≡_, sym, ap, _∙_}
+use mathlib.Core.Bool.{Bool, _&&_}
 use Prim.Native.Nat.{ℕ, _+_, _*_, _≤_}
 use lib.Dec.{eqb, leb}
 use borrow.Author.Tests.{leb-true, eqb-true}
 use Rattle.refusal.specs.Domain.{shape}
 use Rattle.refusal.specs.declared.Verdict.the-variants.{Passed}
 use Rattle.refusal.proofs.Checks.{shape-passed}
+use Rattle.refusal.proofs.Marked.{and-true}
 use Rattle.linesize.specs.declared.container.Mode.{Mode}
 use Rattle.linesize.specs.declared.container.Mode.the-variants.{Balanced}
 use Rattle.passchecks.specs.Checks.{roomToBreak, passRoom}
@@ -29,21 +30,17 @@ pub record Roomy (n : ℕ) (mode : Mode) (numbers codes placed lines counts roun
   pub free-room : n ≤ free
   pub work-room : mode ≡ Balanced → (n * n + 3 * n ≤ work) × (3 * n ≤ sums)
 
-both : (a b : Bool) → (a && b) ≡ true → (a ≡ true) × (b ≡ true)
-both true b e = (refl, e)
-both false b e = absurd (false≢true e)
-
 pub roomy-of : (n : ℕ) (mode : Mode) (numbers codes placed lines counts rounds free work sums : ℕ) → shape n (passRoom n mode numbers codes placed lines counts rounds free work sums) ≡ Passed → Roomy n mode numbers codes placed lines counts rounds free work sums
 unfolding passRoom
 roomy-of n mode numbers codes placed lines counts rounds free work sums e =
     let p = shape-passed n (passRoom n mode numbers codes placed lines counts rounds free work sums) e in
-    let a = both (eqb numbers (14 * n)) _ (p .1) in
-    let b = both (eqb codes (8 * n)) _ (a .1) in
-    let d = both (leb (8 * n) placed) _ (b .1) in
-    let f = both (leb (2 * n) lines) _ (d .1) in
-    let g = both (leb n counts) _ (f .1) in
-    let h = both (leb n rounds) _ (g .1) in
-    let i = both (leb n free) _ (h .1) in
+    let a = and-true (eqb numbers (14 * n)) _ (p .1) in
+    let b = and-true (eqb codes (8 * n)) _ (a .1) in
+    let d = and-true (leb (8 * n) placed) _ (b .1) in
+    let f = and-true (leb (2 * n) lines) _ (d .1) in
+    let g = and-true (leb n counts) _ (f .1) in
+    let h = and-true (leb n rounds) _ (g .1) in
+    let i = and-true (leb n free) _ (h .1) in
     record {
       few = p .0;
       numbers-long = eqb-true numbers (14 * n) (a .0);
@@ -53,5 +50,5 @@ roomy-of n mode numbers codes placed lines counts rounds free work sums e =
       counts-room = leb-true n counts (g .0);
       rounds-room = leb-true n rounds (h .0);
       free-room = leb-true n free (i .0);
-      work-room = λ t. let w = both (leb (n * n + 3 * n) work) (leb (3 * n) sums) (sym (ap (λ (m : Mode). roomToBreak n m work sums) t) ∙ i .1) in (leb-true (n * n + 3 * n) work (w .0), leb-true (3 * n) sums (w .1));
+      work-room = λ t. let w = and-true (leb (n * n + 3 * n) work) (leb (3 * n) sums) (sym (ap (λ (m : Mode). roomToBreak n m work sums) t) ∙ i .1) in (leb-true (n * n + 3 * n) work (w .0), leb-true (3 * n) sums (w .1));
     }

@@ -3,7 +3,7 @@ use mathlib.Core.Path.{_≡_, refl, sym, _∙_, ap, subst}
 use Prim.Native.Nat.{ℕ, _*_, _<_, min}
 use native.Mathlib.Nat.{min-le-left, min-eq-left, le-refl}
 use native.Mathlib.Omega.{arith}
-use mathlib.Core.Bool.{Bool, true, false, not, true≢false}
+use mathlib.Core.Bool.{Bool, true, false, not}
 use mathlib.Core.List.{List, _++_}
 use lib.Dec.{T, leb, leb→le, nleb→lt}
 use lib.ListN.{length, take}
@@ -13,10 +13,9 @@ use borrow.Author.Tests.{lt-ltb}
 use Rattle.container.specs.declared.Container.{Container}
 use Rattle.container.specs.Container.{breakMode}
 use Rattle.refusal.specs.Domain.{orElse, then, checked, summed}
-use Rattle.refusal.specs.declared.Refusal.{Refusal}
 use Rattle.refusal.specs.declared.Refusal.the-variants.{TooManyItems, TooLittleRoom}
-use Rattle.refusal.specs.declared.Verdict.{Verdict}
 use Rattle.refusal.specs.declared.Verdict.the-variants as verdict
+use Rattle.refusal.proofs.Verdicts.{not-both}
 use Rattle.passchecks.specs.Checks.{passRoom, passVerdict, passInput, passSum}
 use Rattle.pass.specs.declared.PassAnswer.{PassAnswer}
 use Rattle.pass.specs.declared.PassAnswer.the-variants.{Done, Refused}
@@ -37,18 +36,10 @@ too-many : (c : Container) (n : ℕ) (x : List Float) (codes : List ℕ) (b : Le
 too-many c n x codes b h =
     many c n x codes (passRoom n (breakMode c) (length x) (length codes) (length (b .placed)) (length (b .lines)) (length (b .counts)) (length (b .rounds)) (length (b .free)) (length (b .work)) (length (b .sums))) h
 
-isPassed : Verdict → Bool
-isPassed verdict.Passed = true
-isPassed (verdict.Refused why) = false
-
-refused-only : (why : Refusal) → verdict.Refused why ≡ verdict.Passed → ⊥
-unfolding isPassed
-refused-only why e = true≢false (sym (ap isPassed e))
-
 -- so what is said of so many is said of any other so many
 as-many : (c : Container) (n n′ : ℕ) (x x′ : List Float) (codes codes′ : List ℕ) (before after : Lent) (r : PassAnswer) → 1024 < n → 1024 < n′ → PassCall c n x codes before r after → PassCall c n′ x′ codes′ before r after
 as-many c n n′ x x′ codes codes′ before after (Refused why) h h′ p = (too-many c n′ x′ codes′ before h′ ∙ sym (too-many c n x codes before h) ∙ p .0, p .1)
-as-many c n n′ x x′ codes codes′ before after (Done lines sum inner) h h′ p = absurd (refused-only TooManyItems (sym (too-many c n x codes before h) ∙ p .0))
+as-many c n n′ x x′ codes codes′ before after (Done lines sum inner) h h′ p = absurd (not-both (p .0) (too-many c n x codes before h))
 
 module _ (c : Container) (xs : List Item) (before : Lent) (r : CPassed) (after : Lent) where
   abbrev m : ℕ

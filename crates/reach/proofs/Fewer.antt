@@ -8,6 +8,7 @@ use native.Mathlib.Omega.{arith}
 use lib.Dec.{lit≤}
 use lib.ListN.{length}
 use lib.Ieee.{Float}
+use Rattle.flexlaws.proofs.Falls.{all-map}
 use Rattle.flexing.specs.declared.Share.{Share}
 use Rattle.grid.specs.Floats.{nought, _⊕_}
 use Rattle.flexing.specs.Flex.{Cell, left, sumFrom, total, factor, settle}
@@ -16,7 +17,7 @@ use Rattle.reach.proofs.Units.{px, Num, far, fl, fl-mono, held-num}
 use Rattle.reach.proofs.Plus.{Sum, sum-num, sum-under, sum-above}
 use Rattle.reach.proofs.Times.{nought-num}
 use Rattle.reach.proofs.Clamp.{Upto}
-use Rattle.reach.proofs.Totals.{all-map, count, count-most, count-long}
+use Rattle.reach.proofs.Totals.{count, count-most, count-long}
 use Rattle.reach.proofs.Turn.{under, whole-of, factor-num}
 use Rattle.reach.proofs.Space.{Sound}
 use Rattle.reach.proofs.Settled.{settled}

@@ -7,13 +7,14 @@ use Prim.Native.Nat.{ℕ, _+_, _*_, _≤_}
 use native.Mathlib.Nat.{le-refl, le-trans, le-of-eq}
 use native.Mathlib.Omega.{arith}
 use lib.Ieee.{Float, lt}
+use Rattle.flexlaws.proofs.Falls.{all-map}
 use Rattle.flexing.specs.declared.Share.{Share}
 use Rattle.grid.specs.Floats.{nought}
 use Rattle.flexing.specs.Flex.{Cell, left, violation, freezes, settle}
 use Rattle.flexlaws.proofs.Signs.{All}
 use Rattle.reach.proofs.Units.{px, far, one-side}
 use Rattle.reach.proofs.Clamp.{bounded, bounded-mono}
-use Rattle.reach.proofs.Totals.{all-map, count, count-all, count-same, count-map, count-none, count-both}
+use Rattle.reach.proofs.Totals.{count, count-all, count-same, count-map, count-none, count-both}
 use Rattle.reach.proofs.Turn.{Fine, part}
 use Rattle.reach.proofs.Space.{held, Sound, sizes}
 use Rattle.reach.proofs.Settled.{all-both, count-split, above-nought, below-nought, sized, settled, TurnOf}

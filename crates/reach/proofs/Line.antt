@@ -1,7 +1,7 @@
 -- The call for one line: where it accepts, none of the checks refuses a target that it hands on. What the checks show of the numbers as they are read. Assumes nothing.
 use mathlib.Core.Path.{_≡_, refl, sym, ap, _∙_, subst}
 use mathlib.Core.Logic.{_⊎_, inl, inr}
-use mathlib.Core.Bool.{Bool, true, false, not, cond, _&&_, true≢false}
+use mathlib.Core.Bool.{Bool, true, false, not, cond, _&&_}
 use mathlib.Core.List.{List, [], _∷_, _++_, map}
 use Prim.Native.Nat.{ℕ, zero, suc, _*_, _<_}
 use native.Mathlib.Nat.{le-trans, le-of-eq, zero-mul}
@@ -22,7 +22,7 @@ use Rattle.refusal.specs.Optional.{optional}
 use Rattle.refusal.specs.Marks.{Fine, AllFine, Sound}
 use Rattle.refusal.specs.declared.Kind.the-variants as kind
 use Rattle.refusal.specs.declared.Verdict.the-variants.{Passed}
-use Rattle.refusal.proofs.Checks.{accepted, then-passed, summed-passed, fine-append, fine-factor}
+use Rattle.refusal.proofs.Checks.{accepted, then-passed, summed-passed, fine-append, fine-factor, T-of}
 use Rattle.flexing.specs.declared.Item.{Item}
 use Rattle.flexing.specs.declared.Line.{Line}
 use Rattle.grid.specs.Floats.{nought, each}
@@ -37,10 +37,6 @@ use Rattle.reach.specs.Reach.{IsSize, IsMargin, IsFactor, IsItem, IsLine
 use Rattle.reach.proofs.Reach.{reach}
 
 -- ---- what the checks say of a number
-
-so : (b : Bool) → not b ≡ false → T b
-so true e = tt
-so false e = absurd (true≢false e)
 
 -- ---- as it is read
 
@@ -81,14 +77,14 @@ clean-above (fin s (suc m) e) h = h
 size-read : {x : Float} → Fine (float kind.Size x) → IsSize (cleaned x)
 unfolding offGrid outOfRange inRange
 size-read {x} f = record {
-  grid = clean-grid x (so (onGrid x) (f .grid));
-  small = clean-within 262144 x (and-l (within 262144 x) (le nought x) (so (within 262144 x && le nought x) (f .range)));
-  above = clean-above x (and-r (within 262144 x) (le nought x) (so (within 262144 x && le nought x) (f .range)));
+  grid = clean-grid x (T-of (onGrid x) (f .grid));
+  small = clean-within 262144 x (and-l (within 262144 x) (le nought x) (T-of (within 262144 x && le nought x) (f .range)));
+  above = clean-above x (and-r (within 262144 x) (le nought x) (T-of (within 262144 x && le nought x) (f .range)));
 }
 
 margin-read : {x : Float} → Fine (float kind.Margin x) → IsMargin (cleaned x)
 unfolding offGrid outOfRange inRange
-margin-read {x} f = record { grid = clean-grid x (so (onGrid x) (f .grid)); small = clean-within 131072 x (so (within 131072 x) (f .range)) }
+margin-read {x} f = record { grid = clean-grid x (T-of (onGrid x) (f .grid)); small = clean-within 131072 x (T-of (within 131072 x) (f .range)) }
 
 factor-read : {x : Float} → T (fits binary32 x) → Fine (float kind.Factor x) → IsFactor (cleaned x)
 factor-read {x} s f = let p = fine-factor f in record { single = clean-fits x s; small = clean-within 1024 x (p .1); above = clean-above x (p .2) }

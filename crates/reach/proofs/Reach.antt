@@ -9,6 +9,7 @@ use native.Mathlib.Nat.{suc-ne-zero, mul-le-mul-right}
 use lib.Dec.{lit≤}
 use lib.ListN.{length}
 use lib.Ieee.{Float}
+use Rattle.flexlaws.proofs.Falls.{all-map}
 use Rattle.grid.specs.Grid.{cleaned}
 use Rattle.flexing.specs.declared.Item.{Item}
 use Rattle.flexing.specs.declared.Line.{Line}
@@ -21,7 +22,6 @@ use Rattle.reach.proofs.Units.{px}
 use Rattle.reach.proofs.Clamp.{Upto}
 use Rattle.reach.proofs.Space.{Sound, haves, useds}
 use Rattle.reach.proofs.Settled.{settled, all-both}
-use Rattle.reach.proofs.Totals.{all-map}
 use Rattle.reach.proofs.Turn.{upto-more}
 use Rattle.reach.proofs.Step.{Fixed, Kept, Done, step}
 use Rattle.reach.proofs.Domain.{handed-on}

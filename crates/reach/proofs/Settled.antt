@@ -10,6 +10,7 @@ use native.Mathlib.Omega.{arith}
 use lib.Dec.{T, lit≤}
 use lib.ListN.{length}
 use lib.Ieee.{Float, lt}
+use Rattle.flexlaws.proofs.Falls.{all-map}
 use Rattle.flexing.specs.declared.Item.{Item}
 use Rattle.flexing.specs.declared.Share.{Share}
 use Rattle.grid.specs.Floats.{nought}
@@ -17,7 +18,7 @@ use Rattle.flexing.specs.Flex.{Cell, left, total, flexed, clamp, violation, fre
 use Rattle.flexlaws.proofs.Signs.{All}
 use Rattle.reach.proofs.Units.{px, Num, far, one-side, lt-num}
 use Rattle.reach.proofs.Times.{nought-num}
-use Rattle.reach.proofs.Totals.{all-map, count, count-long, Near, total-near}
+use Rattle.reach.proofs.Totals.{count, count-long, Near, total-near}
 use Rattle.reach.proofs.Turn.{under, part, part-most, flexed-num, Shares, Turn, turn}
 use Rattle.reach.proofs.Space.{Sound}
 

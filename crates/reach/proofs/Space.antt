@@ -8,6 +8,7 @@ use native.Mathlib.Omega.{arith}
 use lib.Dec.{lit≤}
 use lib.ListN.{length}
 use lib.Ieee.{Float, binary32, add, sub, neg}
+use Rattle.flexlaws.proofs.Falls.{all-map}
 use Rattle.flexing.specs.declared.Item.{Item}
 use Rattle.grid.specs.Floats.{nought, _⊕_, _⊖_}
 use Rattle.flexing.specs.Flex.{Cell, taken, total}
@@ -16,7 +17,7 @@ use Rattle.reach.proofs.Units.{px, Num, far, neg-num}
 use Rattle.reach.proofs.Plus.{Sum, sum-num, sum-near, sum-under}
 use Rattle.reach.proofs.Times.{nought-num}
 use Rattle.reach.proofs.Clamp.{Upto, bounded}
-use Rattle.reach.proofs.Totals.{all-map, count, count-most, count-none, count-long, Near, total-near, total-under}
+use Rattle.reach.proofs.Totals.{count, count-most, count-none, count-long, Near, total-near, total-under}
 use Rattle.reach.proofs.Turn.{Fine, under, whole-of}
 
 -- ---- a cell

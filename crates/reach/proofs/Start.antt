@@ -9,6 +9,7 @@ use native.Mathlib.Omega.{arith}
 use lib.Dec.{T}
 use lib.ListN.{length}
 use lib.Ieee.{Float, lt, eq}
+use Rattle.flexlaws.proofs.Falls.{all-map}
 use Rattle.grid.specs.Grid.{sixtyFourths}
 use Rattle.flexing.specs.declared.Item.{Item}
 use Rattle.grid.specs.Floats.{gaps, nought}
@@ -17,7 +18,7 @@ use Rattle.reach.specs.Reach.{IsItem, IsLine}
 use Rattle.flexlaws.proofs.Signs.{All}
 use Rattle.reach.proofs.Units.{px, far, lt-num}
 use Rattle.reach.proofs.Clamp.{Upto, bounded, bounded-small}
-use Rattle.reach.proofs.Totals.{all-map, count, count-map, count-alike}
+use Rattle.reach.proofs.Totals.{count, count-map, count-alike}
 use Rattle.reach.proofs.Space.{margin, Way, Sound, Room, room, haves, useds, sizes}
 use Rattle.reach.proofs.Levels.{ground, based, sizes-based, based-grows, based-shrinks}
 use Rattle.reach.proofs.Step.{Fixed, Kept, Level, Lean}

@@ -10,6 +10,7 @@ use native.Mathlib.Omega.{arith}
 use lib.Dec.{lit≤}
 use lib.ListN.{length}
 use lib.Ieee.{Float}
+use Rattle.flexlaws.proofs.Falls.{all-map}
 use Rattle.flexing.specs.declared.Item.{Item}
 use Rattle.flexing.specs.declared.Line.{Line}
 use Rattle.flexing.specs.declared.Share.{Share}
@@ -19,7 +20,7 @@ use Rattle.flexlaws.proofs.Signs.{All}
 use Rattle.reach.proofs.Units.{px, Num, far, held-num, one-side}
 use Rattle.reach.proofs.Times.{product, product-mono, product-within, product-zero}
 use Rattle.reach.proofs.Clamp.{Upto, bounded, bounded-under}
-use Rattle.reach.proofs.Totals.{all-map, count, count-map, count-same, count-long, count-one, Above}
+use Rattle.reach.proofs.Totals.{count, count-map, count-same, count-long, count-one, Above}
 use Rattle.reach.proofs.Turn.{Fine, far-off, under, part, part-most, Shares}
 use Rattle.reach.proofs.Parts.{parts}
 use Rattle.reach.proofs.Space.{margin, Sound, Room, room, haves, useds, sizes}

@@ -9,17 +9,12 @@ use native.Mathlib.Nat.{le-refl, le-trans, le-of-eq, zero-mul, mul-le-mul-right}
 use native.Mathlib.Omega.{arith}
 use lib.ListN.{length}
 use lib.Ieee.{Float}
+use Rattle.flexlaws.proofs.Falls.{all-map}
 use Rattle.grid.specs.Floats.{_⊕_}
 use Rattle.flexing.specs.Flex.{sumFrom}
 use Rattle.flexlaws.proofs.Signs.{All}
 use Rattle.reach.proofs.Units.{Num, far, fl, fl-near, fl-mono, held-num, one-side}
 use Rattle.reach.proofs.Plus.{Sum, sum-num, sum-near, sum-under, sum-above}
-
--- ---- what holds of each of a list
-
-pub all-map : {A : Type 0} {P Q : A → Type 0} → ((a : A) → P a → Q a) → (l : List A) → All P l → All Q l
-all-map f [] h = tt
-all-map f (a ∷ l) h = (f a (h .0), all-map f l (h .1))
 
 -- ---- the exact sum of whole numbers over a list
 

@@ -1,7 +1,7 @@
 -- What a caller goes by: the least mark is the refusal that document 01's order of checks gives, marks of parts make those of the whole, and what acceptance says of every number.
 -- Assumes nothing.
 use mathlib.Core.Path.{_≡_, refl, sym, ap, ap₂, _∙_, subst}
-use mathlib.Core.Bool.{Bool, true, false, not, cond, _&&_, _||_, true≢false, false≢true}
+use mathlib.Core.Bool.{Bool, true, false, not, cond, _&&_, _||_, true≢false}
 use mathlib.Core.List.{List, [], _∷_, _++_}
 use Prim.Native.Nat.{ℕ, zero, suc, _+_, _-_, _≤_, _<_, min}
 use native.Mathlib.Nat.{min-eq-left, le-refl}
@@ -12,6 +12,7 @@ use lib.IntN.{ℤ, pos, negsuc, natAbs}
 use lib.Signed.{leZ}
 use lib.Ieee.{Float, binary32, le, neg, ofBits}
 use lib.Ieee.Scale.{finite}
+use mir.Facts.{and-yes}
 use borrow.Author.Tests.{lt-ltb, le-ltb, ltb-true, ltb-false, leb-true, not-false}
 use Rattle.grid.specs.Grid.{onGrid, sixtyFourths, within}
 use Rattle.grid.specs.Values.{Length}
@@ -29,6 +30,7 @@ use Rattle.refusal.specs.declared.Answer.the-variants as answer
 use Rattle.refusal.specs.Domain.{Number, float, code, inRange, notBelow0, notFinite, offGrid, outOfRange, Input, any, first, orElse, check, checked, shape, summed, then, paper}
 use Rattle.refusal.specs.Marks.{mark, leastOf, leastUpTo, leastMark, placeOf, judged, Fine, AllFine, Sound}
 use Rattle.refusal.proofs.Order.{cond-le, markOf, least-is, least-ext, items-are}
+use Rattle.refusal.proofs.Verdicts.{not-both}
 
 -- ---- a mark, judged
 judged-3 : (n p : ℕ) → n ≡ p → p < 2048 → judged n ≡ Refused (NotFinite (placeOf p))
@@ -127,20 +129,13 @@ least-both f g zero = sym (min-eq-left (le-refl 6144))
 least-both f g (suc n) = omega (arith, least-both f g n)
 
 -- ---- what a pass says of the checks
-abbrev isPassed : Verdict → Bool
-isPassed Passed = true
-isPassed (Refused why) = false
-
-not-passed : (why : Refusal) → Refused why ≡ Passed → ⊥
-not-passed why e = false≢true (ap isPassed e)
-
 or-else : (b : Bool) (why : Refusal) (rest : Verdict) → orElse b (Refused why) rest ≡ Passed → (b ≡ false) × (rest ≡ Passed)
-or-else true why rest e = absurd (not-passed why e)
+or-else true why rest e = absurd (not-both e refl)
 or-else false why rest e = (refl, e)
 
 pub then-passed : (v rest : Verdict) → then v rest ≡ Passed → (v ≡ Passed) × (rest ≡ Passed)
 then-passed Passed rest e = (refl, e)
-then-passed (Refused why) rest e = absurd (not-passed why e)
+then-passed (Refused why) rest e = absurd (not-both e refl)
 
 pub shape-passed : (longest : ℕ) (room : Bool) → shape longest room ≡ Passed → (longest ≤ 1024) × (room ≡ true)
 shape-passed longest room e =
@@ -202,13 +197,9 @@ fine-append [] ys h = (tt, h)
 fine-append (x ∷ xs) ys h = let r = fine-append xs ys (h .1) in ((h .0, r .0), r .1)
 
 -- ---- a number that is fine, by its kind
-T-of : (b : Bool) → not b ≡ false → T b
+pub T-of : (b : Bool) → not b ≡ false → T b
 T-of true e = tt
 T-of false e = absurd (true≢false e)
-
-both-T : (p q : Bool) → T (p && q) → T p × T q
-both-T true q t = (tt, t)
-both-T false q t = absurd t
 
 length-of : (n : ℕ) (x : Float) → n ≤ 262144 → T (onGrid x) → T (within n x) → Length x
 length-of n x h g w = let s = within-small n x g .0 w in record { grid = g; small = omega arith }
@@ -241,13 +232,13 @@ pub fine-size : {x : Float} → Fine (float kind.Size x) → Length x × ((n : �
 unfolding offGrid outOfRange inRange
 fine-size {x} f =
     let g = T-of (onGrid x) (f .grid) in
-    let w = both-T (within 262144 x) (notBelow0 x) (T-of (within 262144 x && notBelow0 x) (f .range)) in
+    let w = and-yes (within 262144 x) (notBelow0 x) (T-of (within 262144 x && notBelow0 x) (f .range)) in
     (length-of 262144 x (le-refl 262144) g (w .0), not-below x g (w .1))
 
 pub fine-factor : {x : Float} → Fine (float kind.Factor x) → (finite x ≡ true) × T (within 1024 x) × T (notBelow0 x)
 unfolding notFinite outOfRange inRange
 fine-factor {x} f =
-    let w = both-T (within 1024 x) (notBelow0 x) (T-of (within 1024 x && notBelow0 x) (f .range)) in
+    let w = and-yes (within 1024 x) (notBelow0 x) (T-of (within 1024 x && notBelow0 x) (f .range)) in
     (not-false (finite x) (f .finite), w .0, w .1)
 
 pub fine-worked : {x : Float} → Fine (float kind.Worked x) → (finite x ≡ true) × T (within 16777216 x)

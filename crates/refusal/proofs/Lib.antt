@@ -1,3 +1,4 @@
+pub mod Verdicts
 pub mod Sweep
 pub mod Order
 pub mod Checks

@@ -6,13 +6,13 @@ use Prim.Native.Nat.{ℕ, _+_, _≤_, min, zero-le}
 use native.Mathlib.Omega.{arith}
 use borrow.Author.Tests.{eqb-true, leb-true}
 use lib.Dec.{eqb, leb}
-use Rattle.refusal.specs.declared.Verdict.{Verdict}
-use Rattle.refusal.specs.declared.Verdict.the-variants.{Passed, Refused}
-use Rattle.refusal.specs.Domain.{Number, Input, checked, then}
+use Rattle.refusal.specs.declared.Verdict.the-variants.{Passed}
+use Rattle.refusal.specs.Domain.{Number, Input, checked}
 use Rattle.refusal.specs.Marks.{mark, leastOf, leastUpTo, leastMark, judged}
 use Rattle.refusal.proofs.Order.{least-ext}
 use Rattle.refusal.proofs.Checks.{judged-checked, least-append, least-one, least-both, shape-passed}
 use Rattle.refusal.specs.Shapes.{longest, alike, roomy, shapeOf}
+use Rattle.refusal.proofs.Verdicts.{then-last}
 
 -- ---- marks
 
@@ -38,15 +38,11 @@ container-two x y = ap (min (mark x 0)) (sym (least-one y 0 zero-le))
 
 -- the least mark, judged
 pub judged-is : (input : Input) → input .count ≤ 1024 → judged (leastMark input) ≡ checked input Passed
-judged-is input h = sym (last (judged (leastMark input))) ∙ judged-checked input h Passed
-  where
-    last : (v : Verdict) → then v Passed ≡ v
-    last Passed = refl
-    last (Refused why) = refl
+judged-is input h = sym (then-last (judged (leastMark input))) ∙ judged-checked input h Passed
 
 -- ---- shapes
 
-and-true : (a b : Bool) → (a && b) ≡ true → (a ≡ true) × (b ≡ true)
+pub and-true : (a b : Bool) → (a && b) ≡ true → (a ≡ true) × (b ≡ true)
 and-true true b e = (refl, e)
 and-true false b e = let z : _≡_ {A = ℕ} 0 1 = cc in absurd (omega arith)
 

@@ -1,8 +1,7 @@
--- What the loops over a list of items keep: the least, and the sum, of one item more. Assumes nothing.
+-- What the loops over a list of items keep: the least of one item more. Assumes nothing.
 use mathlib.Core.Path.{_≡_, refl, ap}
 use Prim.Native.Nat.{ℕ, _+_, min}
 use native.Mathlib.Numerals.{add-one}
-use Rattle.grid.specs.Floats.{sumUpTo}
 use Rattle.refusal.specs.Marks.{leastUpTo}
 
 pub least-none : (f : ℕ → ℕ) → leastUpTo f 0 ≡ 6144
@@ -12,11 +11,3 @@ least-none f = refl
 pub least-more : (f : ℕ → ℕ) (i : ℕ) → leastUpTo f (i + 1) ≡ min (leastUpTo f i) (f i)
 unfolding leastUpTo
 least-more f i = ap (leastUpTo f) (add-one i)
-
-pub sum-none : (f : ℕ → ℕ) → sumUpTo f 0 ≡ 0
-unfolding sumUpTo
-sum-none f = refl
-
-pub sum-more : (f : ℕ → ℕ) (i : ℕ) → sumUpTo f (i + 1) ≡ sumUpTo f i + f i
-unfolding sumUpTo
-sum-more f i = ap (sumUpTo f) (add-one i)

@@ -3,7 +3,7 @@
 use mathlib.Core.Path.{_≡_, refl, sym, ap, _∙_}
 use mathlib.Core.List.{List, [], _∷_, map}
 use Prim.Native.Nat.{ℕ, zero, suc, _+_, _*_, _≤_, _^_, zero-le}
-use native.Mathlib.Nat.{le-refl, le-trans, zero-add, mul-add, add-mul, mul-comm, mul-le-mul, add-assoc}
+use native.Mathlib.Nat.{le-refl, le-trans, zero-add, mul-add, add-mul, mul-comm, mul-le-mul}
 use native.Mathlib.Omega.{arith}
 use lib.ListN.{length, getD, take, drop}
 use lib.IntN.{ℤ, pos, negsuc, natAbs, _+ℤ_}
@@ -11,6 +11,7 @@ use lib.Ieee.{Float, nan}
 use Rattle.grid.specs.Grid.{sixtyFourths}
 use Rattle.grid.specs.Floats.{sumUpTo}
 use Rattle.grid.proofs.Sums.{abs-add}
+use Rattle.grid.proofs.UpTo.{sum-first}
 use Rattle.breaking.specs.Breaking.{lineSize}
 use Rattle.breaking.specs.Calls.{outerSum, units}
 use Rattle.rule.specs.Rule.{floored, score}
@@ -20,12 +21,6 @@ use Rattle.rule.specs.Rule.{floored, score}
 weigh : ℤ → List ℤ → ℕ
 weigh gap [] = 0
 weigh gap (x ∷ l) = natAbs x + natAbs gap + weigh gap l
-
--- a sum by its first number
-pub sum-first : (f : ℕ → ℕ) (k : ℕ) → sumUpTo f (suc k) ≡ f 0 + sumUpTo (λ i. f (suc i)) k
-unfolding sumUpTo
-sum-first f zero = omega arith
-sum-first f (suc k) = ap (λ (s : ℕ). s + f (suc k)) (sum-first f k) ∙ add-assoc (f 0) (sumUpTo (λ i. f (suc i)) k) (f (suc k))
 
 weigh-is : (gap : Float) (sizes : List Float) → outerSum gap sizes ≡ weigh (sixtyFourths gap) (units sizes)
 unfolding weigh sumUpTo

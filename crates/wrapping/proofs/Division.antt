@@ -19,7 +19,7 @@ use Rattle.breaking.specs.Calls.{units, written}
 use Rattle.breaking.proofs.Lines.{total, greedy-total, greedy-positive}
 use Rattle.balance.specs.Calls.{Lent}
 use Rattle.rule.specs.Rule.{floored, Valid}
-use Rattle.rule.proofs.Totals.{sum-first}
+use Rattle.grid.proofs.UpTo.{sum-first}
 use Rattle.rule.proofs.Unique.{balanced-one}
 use Rattle.linesize.specs.declared.container.Mode.{Mode}
 use Rattle.linesize.specs.declared.container.Mode.the-variants.{Single, Greedy, Balanced}

@@ -1,6 +1,6 @@
 -- What breaking asks, from what the pass's checks show: sizes that are whole sixty-fourths with a small sum, and so the hypothetical outer sizes of
 -- measured items. Assumes nothing.
-use mathlib.Core.Path.{_≡_, refl, sym, ap, ap₂, _∙_, subst}
+use mathlib.Core.Path.{_≡_, sym, ap, _∙_, subst}
 use mathlib.Core.Logic.{_⊎_, inl, inr}
 use mathlib.Core.List.{List, [], _∷_, _++_, map}
 use Prim.Native.Nat.{ℕ, zero, suc, _+_, _≤_, _<_}
@@ -14,6 +14,7 @@ use Rattle.grid.specs.Grid.{sixtyFourths}
 use Rattle.grid.specs.Values.{At, Length}
 use Rattle.grid.proofs.Meaning.{grid-of-at}
 use Rattle.grid.specs.Floats.{sumUpTo, each}
+use Rattle.grid.proofs.UpTo.{sum-ext, sum-past}
 use Rattle.breaklimit.specs.declared.AvailableSpace.{AvailableSpace}
 use Rattle.breaking.specs.Calls.{units}
 use Rattle.breaking.specs.Steps.{LengthLimit, Breakable}
@@ -24,23 +25,6 @@ use Rattle.itemtable.specs.Table.{itemIn, itemsIn, Tabled}
 use Rattle.itemtable.proofs.Each.{length-each, map-each, each-ext, outer-none, outer-snoc}
 use Rattle.flexlaws.proofs.Units.{outer-at}
 use Rattle.wrapping.specs.Outer.{outerSizes}
-
--- ---- sums
-
-sum-same : (f g : ℕ → ℕ) (n : ℕ) → ((i : ℕ) → i < n → f i ≡ g i) → sumUpTo f n ≡ sumUpTo g n
-unfolding sumUpTo
-sum-same f g zero h = refl
-sum-same f g (suc n) h = ap₂ (λ (a b : ℕ). a + b) (sum-same f g n (λ i l. h i (omega arith))) (h n (omega arith))
-
--- no member is above the sum
-sum-member : (f : ℕ → ℕ) (i n : ℕ) → i < n → f i ≤ sumUpTo f n
-unfolding sumUpTo
-sum-member f i zero h = absurd (omega arith)
-sum-member f i (suc n) h = go (eq-or-lt-of-le (le-of-suc-le-suc h)) (sum-member f i n)
-  where
-    go : (i ≡ n) ⊎ (i < n) → (i < n → f i ≤ sumUpTo f n) → f i ≤ sumUpTo f n + f n
-    go (inl e) k = omega (arith, ap f e)
-    go (inr l) k = omega (arith, k l)
 
 -- ---- any sizes
 
@@ -56,7 +40,7 @@ breakable-at limit gap sizes zs few at small l g p = record {
   spacing = g;
   gap-not-below-0 = p;
   limit-is = l;
-  small = subst (λ (s : ℕ). s ≤ 16777216) (sum-same f e (length sizes) same) small;
+  small = subst (λ (s : ℕ). s ≤ 16777216) (sum-ext f e (length sizes) same) small;
 }
   where
     f : ℕ → ℕ
@@ -69,7 +53,7 @@ breakable-at limit gap sizes zs few at small l g p = record {
     same i h = ap (λ (z : ℤ). natAbs z + natAbs (sixtyFourths gap)) (sym (grid-of-at (getD sizes i nan) (zs i) (at i h) .1))
 
     one : (i : ℕ) → i < length sizes → natAbs (sixtyFourths (getD sizes i nan)) ≤ 16777216
-    one i h = omega (arith, sum-member f i (length sizes) h, ap natAbs (grid-of-at (getD sizes i nan) (zs i) (at i h) .1))
+    one i h = omega (arith, sum-past f i (length sizes) h, ap natAbs (grid-of-at (getD sizes i nan) (zs i) (at i h) .1))
 
 -- ---- the items of the pass
 
@@ -113,7 +97,7 @@ module _ (t : List Float) (n : ℕ) where
     size-at : (i : ℕ) → i < n → At 64 (size i) (outerUnits (item i))
     size-at i h =
         outer-at (item i) (subst (λ (k : ℕ). Measured (itemIn t k)) (sym (zero-add i)) (tabled i h))
-        (omega (arith, sum-member (λ j. natAbs (outerUnits (item j)) + natAbs (sixtyFourths gap)) i n h, sum-within))
+        (omega (arith, sum-past (λ j. natAbs (outerUnits (item j)) + natAbs (sixtyFourths gap)) i n h, sum-within))
 
     -- THE SIZES OF A TABLE THAT THE CHECKS ACCEPTED CAN BE BROKEN
     pub table-breakable : (limit : AvailableSpace) → n ≤ 1024 → LengthLimit limit → Length gap → (z : ℕ) × (sixtyFourths gap ≡ pos z) → Breakable limit gap (outerSizes (itemsIn t 0 n))

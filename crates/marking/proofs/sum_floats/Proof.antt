@@ -12,7 +12,7 @@ use Rattle.grid.specs.Grid.{sixtyFourths}
 use Rattle.grid.specs.Values.{Length}
 use Rattle.grid.specs.Floats.{sumUpTo}
 use Rattle.refusal.specs.Marks.{Lengths}
-use Rattle.refusal.proofs.Sweep.{sum-none, sum-more}
+use Rattle.grid.proofs.UpTo.{sum-none, sum-more}
 use Rattle.marking.proofs.sum_floats.Statement.{statement}
 use Rattle.marking.proofs.sum_floats.Tie as tie
 

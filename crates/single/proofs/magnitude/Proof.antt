@@ -1,8 +1,8 @@
 -- `single::magnitude` meets its contract. A signed local holds bits, and the machine reads the number back from them: `back` and `back-neg` take that away.
 -- Assumes nothing.
-use mathlib.Core.Path.{_≡_, refl, sym, ap, _∙_, subst}
+use mathlib.Core.Path.{_≡_, sym, ap, _∙_, subst}
 use mathlib.Core.Bool.{true, false, false≢true, true≢false}
-use Prim.Native.Nat.{ℕ, zero, suc, _≤_, _<_, _^_}
+use Prim.Native.Nat.{ℕ, _≤_, _<_, _^_}
 use native.Mathlib.Nat.{lt-of-le-of-lt, lt-of-lt-of-le}
 use lib.Dec.{T, lit≤, lit<, leb·suc-zero}
 use lib.IntN.{ℤ, pos, negsuc, negℤ, natAbs, _-ℤ_, +ℤ-idl}
@@ -12,15 +12,11 @@ use mir.Val.{toZ, ofZ, SFits, Fits}
 use mir.ValLaws.{toZ-ofZ}
 use Rattle.single.proofs.magnitude.Statement.{statement}
 use Rattle.single.proofs.magnitude.Tie as tie
+use Rattle.grid.proofs.Exact.{abs-neg}
 
 mag-le : (z : ℤ) → natAbs z ≤ 67108864 → mag z < 2 ^ 31
 mag-le (pos n) h = lt-of-le-of-lt h (lit< tt)
 mag-le (negsuc n) h = lt-of-lt-of-le h (lit≤ tt)
-
-abs-neg : (z : ℤ) → natAbs (negℤ z) ≡ natAbs z
-abs-neg (pos zero) = refl
-abs-neg (pos (suc n)) = refl
-abs-neg (negsuc n) = refl
 
 module _ (z : ℤ) (h : natAbs z ≤ 67108864) where
   back : toZ w32 (ofZ w32 z) ≡ z
