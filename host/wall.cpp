@@ -103,7 +103,7 @@ void print(const wall_panel &p) {
         std::printf("   ");
         for (std::uint32_t k = 0; k < line.count; k++, i++)
             std::printf(" %s %.1f", p.gauges[i].label.c_str(), double(f.items[i].main_size));
-        std::printf("  (%.1f px free, %u round%s)\n", line.free / 64.0, line.rounds, line.rounds == 1 ? "" : "s");
+        std::printf("  (%.1f px free before flexing, %u round%s of it)\n", line.free / 64.0, line.rounds, line.rounds == 1 ? "" : "s");
     }
 }
 

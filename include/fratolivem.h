@@ -9,7 +9,7 @@
  * Calls keep no state and allocate nothing: several threads may call at once, each on lists of its own.
  *
  * Lengths are pixels, whole multiples of 1/64, of at most 262,144 px either way; -0.0 reads as 0, and no answer is -0.0.
- * Sizes that are broken, limits, available space and margins may be negative; all other sizes, gaps and bounds may not, unless said below. The sum over the items of
+ * Sizes handed to the breaking calls, limits, available space and margins may be negative; all other sizes, gaps and bounds may not, unless said below. The sum over the items of
  * (|size| + gap) is at most 262,144 px.
  *
  * On acceptance of a breaking call the first n cells of `counts` hold the lines' item counts, and 0 past the last line. Cells past the named
@@ -39,7 +39,7 @@ enum {
 /* Where the number stands that a refusal is about. */
 enum {
     FRATOLIVEM_NOWHERE = 0,   /* nothing is refused; `place` is 0 */
-    FRATOLIVEM_CONTAINER = 1, /* limit, gap, bounds, room or the list as a whole; `place` is 0 */
+    FRATOLIVEM_CONTAINER = 1, /* limit, gap, bounds, a code of the container's, room or a list as a whole; `place` is 0 */
     FRATOLIVEM_AT = 2         /* the item or line `place`, counted from 0 */
 };
 
@@ -69,12 +69,13 @@ typedef struct {
     float limit;   /* 0.0 unless the kind is DEFINITE */
 } fratolivem_limit;
 
-/* The limit that lines break against. Flags are 0 or 1: whether the main size that the host works with is definite (not found from the items),
- * whether the container's own style fixes its main size, and whether it is a row. A row of fixed width w: 1, 1, 1, DEFINITE, w, no bounds.
+/* The limit that lines break against. Flags are 0 or 1: whether the main size that the host works with is known (known_is_definite: not found from the
+ * items), whether the container's own style fixes its main size (main_is_definite), and whether it is a row. A row of fixed width w: 1, 1, 1, DEFINITE, w, no bounds.
  * A column as high as its items: 0, 0, 0, and any space is max-content. A bound whose flag is 0 is absent, and its number is not read. The bounds
- * are those of the container's inner main size. If the known main size is not definite: max-content. Else, with a maximum: the available number, or
- * the maximum where there is none; lowered to the maximum if the main size is not definite; raised to the minimum. With no maximum the
- * available space itself, but max-content for a number in a column whose main size is not definite. */
+ * are those of the container's inner main size. If known_is_definite is 0: max-content. Else, with a maximum: the available number, or
+ * the maximum where there is none; lowered to the maximum if main_is_definite is 0; raised to the minimum. With no maximum the
+ * available space itself, but max-content for a number in a column with main_is_definite 0. So a minimum without a maximum changes nothing, and a maximum
+ * lowers nothing where main_is_definite is 1. */
 fratolivem_limit fratolivem_break_limit(uint32_t known_is_definite, uint32_t main_is_definite, uint32_t is_row,
                                         uint32_t available_kind, float available, uint32_t has_minimum, float minimum,
                                         uint32_t has_maximum, float maximum);
@@ -320,7 +321,8 @@ enum { FRATOLIVEM_LINE_SIZE = 0, FRATOLIVEM_LINE_OFFSET = 1, FRATOLIVEM_LINE_LIS
  * flexing, and free space before flexing in whole sixty-fourths, negative where the line is overfull. Cells by line are 0 past the last line.
  * BALANCE and BALANCE_REVERSE also ask for n*n + 3n cells of work and 3n of sums (fratolivem_work_cells, fratolivem_sum_cells), which are 0
  * after acceptance; else these two may be NULL and are not touched. All other cells are unchanged. It takes 163,840 bytes of
- * stack (give its thread 256 KB; the calls that flex take 40,960, balanced breaking 36,864). Ranges and the sum of refusal 6 are those of fratolivem_flex_line. */
+ * stack (give its thread 256 KB; the calls that flex take 40,960, balanced breaking 36,864). Ranges and the sum of refusal 6 are those of
+ * fratolivem_flex_line and, across, those of fratolivem_line_size and fratolivem_place_across. */
 fratolivem_passed fratolivem_pass(fratolivem_container container, const fratolivem_item *items, size_t n, float *placed,
                                   size_t placed_len, float *lines, size_t lines_len, uint32_t *counts, size_t counts_len,
                                   uint32_t *rounds, size_t rounds_len, int32_t *free, size_t free_len, uint32_t *work,

@@ -13,7 +13,7 @@
 
 namespace fratolivem {
 
-// C++17 has no std::span. This one is made of anything that has data() and size(), or of a pointer and a size.
+// C++17 has no std::span. This one is made of anything that has data() and size(), or of a pointer and a size (a C array as {cells, n}).
 template <class T>
 class span {
 public:

@@ -8,6 +8,7 @@ The first part names the limit (a number, min or max), the gap and the minimum l
 A float may also be given by its bits, as 0x7fc00000. `raw HEX` as a part puts these bytes in its place, to try broken records,
 and a last part `open` leaves the end record out. On an error nothing is written: in a pipe, `set -o pipefail` shows it.
 """
+import os
 import struct
 import sys
 
@@ -54,6 +55,11 @@ def main():
         sys.exit(__doc__)
     try:
         sys.stdout.buffer.write(capture(" ".join(sys.argv[1:])))
+        sys.stdout.buffer.flush()
+    except BrokenPipeError:
+        # whoever reads has ended, and has said why
+        os.dup2(os.open(os.devnull, os.O_WRONLY), sys.stdout.fileno())
+        sys.exit(1)
     except (ValueError, IndexError, struct.error, OverflowError) as fault:
         sys.exit("capture.py: " + str(fault))
 

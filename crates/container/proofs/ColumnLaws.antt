@@ -1,7 +1,7 @@
 -- Lists of n cells one after another: list k is the part of a list from k·n on, and a list that is stored leaves the others. By the laws of parts. Assumes nothing.
 use mathlib.Core.Path.{_≡_, refl, sym, ap, _∙_}
 use mathlib.Core.Logic.{_⊎_, inl, inr}
-use mathlib.Core.List.{List, _++_}
+use mathlib.Core.List.{List, [], _∷_, _++_}
 use Prim.Native.Nat.{ℕ, suc, _+_, _*_, _-_, _≤_, _<_}
 use native.Mathlib.Nat.{mul-le-mul-right, suc-mul}
 use native.Mathlib.Omega.{arith}
@@ -13,6 +13,10 @@ use Rattle.container.specs.Columns.{column}
 use Rattle.container.specs.Stages.{Stored, FourStored}
 
 -- ---- list k
+
+pub take-none : {A : Type 0} (l : List A) → take 0 l ≡ []
+take-none [] = refl
+take-none (y ∷ l) = refl
 
 pub part-column : {A : Type 0} (n k : ℕ) (l : List A) → take (k * n + n - k * n) (drop (k * n) l) ≡ column n k l
 unfolding column

@@ -23,7 +23,7 @@ use Rattle.sizelines.proofs.Sizing.{sizes-front}
 use Rattle.container.specs.declared.Container.{Container}
 use Rattle.container.specs.Columns.{column, crossItems, alignSelf, autoSize, zeros}
 use Rattle.container.specs.Stages.{Inside, Stored, FourStored}
-use Rattle.container.proofs.ColumnLaws.{before}
+use Rattle.container.proofs.ColumnLaws.{take-none, before}
 use Rattle.passchecks.proofs.Taken.{number-length, lengths-cross}
 use Rattle.crossstage.specs.CrossStage.{Ready, AlignedLines, LinesPlaced, PlacedAcross, ItemsAcross}
 
@@ -83,11 +83,7 @@ abbrev pub frame : List Float
 frame = replicate 1024 nought
 
 fronts : (n m : ℕ) → n ≤ m → take n (replicate m nought) ≡ zeros n
-fronts zero m h = nothing (replicate m nought)
-  where
-    nothing : (l : List Float) → take 0 l ≡ []
-    nothing [] = refl
-    nothing (y ∷ l) = refl
+fronts zero m h = take-none (replicate m nought)
 fronts (suc n) zero h = absurd (omega arith)
 fronts (suc n) (suc m) h = ap (λ (l : List Float). nought ∷ l) (fronts n m (omega arith))
 

@@ -3,25 +3,21 @@ use mathlib.Core.Path.{_≡_, refl, sym, ap, ap₂, _∙_}
 use mathlib.Core.List.{List, [], _∷_, _++_}
 use Prim.Native.Nat.{ℕ, zero, suc, _+_, min}
 use native.Mathlib.Nat.{min-eq-left, le-refl}
-use lib.Dec.{lit≤}
 use lib.ListN.{length}
 use lib.Ieee.{Float}
 use Rattle.refusal.specs.Domain.{Number, float}
 use Rattle.refusal.specs.Lists.{besideAt}
 use Rattle.refusal.specs.Marks.{mark, leastOf, leastUpTo, leastMark}
 use Rattle.refusal.specs.declared.Kind.the-variants.{Size, Margin}
-use Rattle.refusal.proofs.Order.{least-ext}
-use Rattle.refusal.proofs.Checks.{least-both, least-append, least-one}
+use Rattle.refusal.proofs.Checks.{least-both}
+use Rattle.refusal.proofs.Marked.{several, several-both, container-two}
 use Rattle.flexing.specs.Items.{Lists, count}
 use Rattle.flexchecks.specs.Input.{plainAt, inputOf}
 use Rattle.flexing.specs.Accepted.{Even}
 
--- the least mark of the numbers that each item has in f, and of those in a list of numbers of each
+-- the least mark of the numbers that each item has in f
 abbrev pub single : (ℕ → Number) → ℕ → ℕ
 single f n = leastUpTo (λ i. mark (f i) (i + 1)) n
-
-abbrev pub several : (ℕ → List Number) → ℕ → ℕ
-several g n = leastUpTo (λ i. leastOf (g i) (i + 1)) n
 
 pub several-none : (n : ℕ) → several (λ i. []) n ≡ 6144
 unfolding leastUpTo leastOf
@@ -32,15 +28,10 @@ pub several-more : (f : ℕ → Number) (g : ℕ → List Number) (n a b r : ℕ
 unfolding leastOf
 several-more f g n a b r p q e = e ∙ ap₂ min p q ∙ sym (least-both (λ i. mark (f i) (i + 1)) (λ i. leastOf (g i) (i + 1)) n)
 
-pub several-both : (f g : ℕ → List Number) (n a b r : ℕ) → a ≡ several f n → b ≡ several g n → r ≡ min a b → r ≡ several (λ i. f i ++ g i) n
-several-both f g n a b r p q e =
-    e ∙ ap₂ min p q ∙ sym (least-both (λ i. leastOf (f i) (i + 1)) (λ i. leastOf (g i) (i + 1)) n)
-    ∙ least-ext (λ i. min (leastOf (f i) (i + 1)) (leastOf (g i) (i + 1))) (λ i. leastOf (f i ++ g i) (i + 1)) n (λ i h. sym (least-append (f i) (g i) (i + 1)))
-
 -- the container's two numbers
 pub container-is : (x y : Number) (a b r : ℕ) → a ≡ mark x 0 → b ≡ mark y 0 → r ≡ min a b → r ≡ leastOf (x ∷ y ∷ []) 0
 unfolding leastOf
-container-is x y a b r p q e = e ∙ ap₂ min p (q ∙ sym (least-one y 0 (lit≤ tt)))
+container-is x y a b r p q e = e ∙ ap₂ min p q ∙ container-two x y
 
 module _ (inner gap : Float) (ls : Lists) (even : Even ls) where
   -- all marks of a call
@@ -52,7 +43,7 @@ module _ (inner gap : Float) (ls : Lists) (even : Even ls) where
       let S = besideAt Margin 0 (ls .start) (ls .auto-start) in
       let E = besideAt Margin 0 (ls .end) (ls .auto-end) in
       let n = count ls in
-      let qa = several-both S E n s e a (hs ∙ ap (several S) (even .start)) (he ∙ ap (several E) (even .end)) ha in
-      let qb = several-both M (λ i. S i ++ E i) n m a b (hm ∙ ap (several M) (even .maximum)) qa hb in
-      let qr = several-both (plainAt (ls .base) (ls .minimum) (ls .edges) (ls .grow) (ls .shrink)) (λ i. M i ++ (S i ++ E i)) n p b r hp qb hr in
+      let qa = several-both S E (even .start) hs (he ∙ ap (several E) (even .end)) ha in
+      let qb = several-both M (λ i. S i ++ E i) (even .maximum) hm qa hb in
+      let qr = several-both (plainAt (ls .base) (ls .minimum) (ls .edges) (ls .grow) (ls .shrink)) (λ i. M i ++ (S i ++ E i)) refl hp qb hr in
       ht ∙ ap₂ min hc qr

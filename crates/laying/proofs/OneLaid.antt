@@ -1,6 +1,6 @@
 -- An accepted run leaves no choice, by the same of each stage in turn. Assumes nothing.
-use mathlib.Core.Path.{_≡_, refl, sym, ap, ap₂, _∙_, subst}
-use mathlib.Core.List.{List, [], _∷_, _++_}
+use mathlib.Core.Path.{_≡_, sym, ap, ap₂, _∙_, subst}
+use mathlib.Core.List.{List, [], _++_}
 use Prim.Native.Nat.{ℕ, zero, suc, _*_, _≤_, _<_}
 use native.Mathlib.Nat.{le-trans, le-of-eq, zero-mul, suc-mul}
 use native.Mathlib.Omega.{arith}
@@ -30,7 +30,7 @@ use Rattle.container.specs.declared.Container.{Container}
 use Rattle.container.specs.Columns.{column, mainLists, crossItems, alignSelf, autoSize, zeros, mainItems}
 use Rattle.container.specs.Container.{limitSpace, reversed, wrapMode, breakMode, crossAxis}
 use Rattle.container.specs.Stages.{Listed}
-use Rattle.container.proofs.ColumnLaws.{before, length-column}
+use Rattle.container.proofs.ColumnLaws.{take-none, before, length-column}
 use Rattle.passchecks.proofs.Taken.{number-length}
 use Rattle.laying.specs.Laid.{Lent, lent, Laid}
 
@@ -39,11 +39,7 @@ use Rattle.laying.specs.Laid.{Lent, lent, Laid}
 -- lists of n cells one after another that are the same
 fronts : (n m : ℕ) (a b : List Float) → ((j : ℕ) → j < m → column n j a ≡ column n j b) → take (m * n) a ≡ take (m * n) b
 unfolding column
-fronts n zero a b h = ap (λ (k : ℕ). take k a) (zero-mul n) ∙ nothing a ∙ sym (ap (λ (k : ℕ). take k b) (zero-mul n) ∙ nothing b)
-  where
-    nothing : (l : List Float) → take 0 l ≡ []
-    nothing [] = refl
-    nothing (y ∷ l) = refl
+fronts n zero a b h = ap (λ (k : ℕ). take k a) (zero-mul n) ∙ take-none a ∙ sym (ap (λ (k : ℕ). take k b) (zero-mul n) ∙ take-none b)
 fronts n (suc m) a b h =
     ap (λ (k : ℕ). take k a) (suc-mul m n) ∙ take-add (m * n) n a
     ∙ ap₂ (λ (y z : List Float). y ++ z) (fronts n m a b (λ j l. h j (omega arith))) (h m (omega arith))

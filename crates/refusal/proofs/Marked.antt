@@ -1,5 +1,5 @@
 -- The marks of lists, put together as document 01's checks of a call, and what a passed shape says of the lengths. Assumes nothing.
-use mathlib.Core.Path.{_≡_, refl, sym, ap, _∙_}
+use mathlib.Core.Path.{_≡_, refl, sym, ap, _∙_, ap₂}
 use mathlib.Core.Bool.{Bool, true, false, _&&_}
 use mathlib.Core.List.{List, [], _∷_, _++_}
 use Prim.Native.Nat.{ℕ, _+_, _≤_, min, zero-le}
@@ -30,6 +30,13 @@ pub items-append : (a b : ℕ → List Number) (n : ℕ) → leastUpTo (λ i. le
 items-append a b n =
     least-ext (λ i. leastOf (a i ++ b i) (i + 1)) (λ i. min (leastOf (a i) (i + 1)) (leastOf (b i) (i + 1))) n (λ i l. least-append (a i) (b i) (i + 1))
     ∙ least-both (λ i. leastOf (a i) (i + 1)) (λ i. leastOf (b i) (i + 1)) n
+
+-- the least mark of the first n items, of which item i has the numbers f i
+abbrev pub several : (ℕ → List Number) → ℕ → ℕ
+several f n = leastUpTo (λ i. leastOf (f i) (i + 1)) n
+
+pub several-both : (f g : ℕ → List Number) {n k a b r : ℕ} → k ≡ n → a ≡ several f k → b ≡ several g n → r ≡ min a b → r ≡ several (λ i. f i ++ g i) n
+several-both f g {n} e p q h = h ∙ ap₂ min (p ∙ ap (several f) e) q ∙ sym (items-append f g n)
 
 -- two numbers of the container
 pub container-two : (x y : Number) → min (mark x 0) (mark y 0) ≡ leastOf (x ∷ y ∷ []) 0

@@ -14,7 +14,7 @@ use Rattle.breaking.specs.Breaking.{Limit, min-content, max-content, definite, 
 use Rattle.rule.specs.Rule.{floored, Line, Valid, score, Better, Chosen, required, Balanced}
 use Rattle.rule.specs.Natural as nat
 use Rattle.rule.specs.Natural.{natural}
-use Rattle.rule.proofs.Exists.{greedy-same, balanced-exists}
+use Rattle.rule.proofs.Exists.{empty, greedy-same, balanced-exists}
 
 -- ---- sizes
 -- a size with a negative one read as 0
@@ -74,10 +74,6 @@ map-snoc (y ∷ ns) x = ap (λ (r : List ℤ). pos y ∷ r) (map-snoc ns x)
 pos-inj : {a b : ℕ} → pos a ≡ pos b → a ≡ b
 pos-inj e = ap natAbs e
 
-empty : (ns : List ℕ) → map pos ns ≡ [] → ns ≡ []
-empty [] e = refl
-empty (x ∷ ns) e = absurd (omega (arith, ap length e))
-
 -- ---- a line's size
 line-size-is : (g : ℕ) (ns : List ℕ) → lineSize (pos g) (map pos ns) ≡ pos (nat.lineSize g ns)
 unfolding lineSize
@@ -128,7 +124,7 @@ module _ (limit : Limit) (g : ℕ) where
 
   -- ---- a division, either way
   valid-to : (ns d : List ℕ) → Valid limit (pos g) (map pos ns) d → nat.Valid (natural limit) g ns d
-  valid-to ns [] e = empty ns e
+  valid-to ns [] e = empty ns (sym (length-map ns pos) ∙ ap length e)
   valid-to ns (c ∷ d) (l, v) = (line-to ns c (length d) l, valid-to (drop c ns) d (subst (λ (r : List ℤ). Valid limit (pos g) r d) (drop-map c ns) v))
 
   valid-from : (ns d : List ℕ) → nat.Valid (natural limit) g ns d → Valid limit (pos g) (map pos ns) d
@@ -225,11 +221,7 @@ module _ (limit : Limit) (g : ℕ) where
 -- no items: no lines
 pub none-balanced : (limit : Limit) (gap : ℤ) (minimum : ℕ) → Balanced limit gap [] minimum []
 unfolding greedy linesOf
-none-balanced limit gap minimum = record { valid = refl; lines = omega arith; best = λ e v l. inl (sym (nothing e (omega arith))) }
-  where
-    nothing : (e : List ℕ) → length e ≡ 0 → e ≡ []
-    nothing [] h = refl
-    nothing (c ∷ e) h = absurd (omega arith)
+none-balanced limit gap minimum = record { valid = refl; lines = omega arith; best = λ e v l. inl (sym (empty e (omega arith))) }
 
 -- EVERY LIST OF SIZES HAS A BALANCED DIVISION, for any limit, any minimum and a gap that is not negative
 pub balanced-some : (limit : Limit) (g : ℕ) (zs : List ℤ) (minimum : ℕ) → (d : List ℕ) × Balanced limit (pos g) zs minimum d

@@ -15,6 +15,10 @@ use Rattle.rule.proofs.DpLaws.{lt-or-ge, G-le, exists}
 use Rattle.rule.specs.Sizes.{sizeAt, squareAt, FitEnd, GreedyCounts, ZeroAt}
 use Rattle.rule.proofs.SizesLaws.{fits-dec, line-size, fit-over, fit-under, fit-one, laws, chosen}
 
+pub empty : {A : Type 0} (l : List A) → length l ≡ 0 → l ≡ []
+empty [] e = refl
+empty (x ∷ l) e = absurd (omega arith)
+
 module _ (limit : Limit) (gap : ℕ) (xs : List ℕ) where
   -- ---- a greedy line is a fit end, either way
   pub greedy→fit : (s c : ℕ) → s + c ≤ length xs → GreedyLine limit gap (drop s xs) c → FitEnd limit gap xs s (s + c)
@@ -60,16 +64,8 @@ module _ (limit : Limit) (gap : ℕ) (xs : List ℕ) where
   pub greedy-made : (F : ℕ → ℕ) → ((s : ℕ) → s < length xs → FitEnd limit gap xs s (F s)) → (m s : ℕ) → s ≤ length xs → length xs ≤ s + m
       → (d : List ℕ) × Greedy limit gap (drop s xs) d
   greedy-made F fe zero s h f = ([], empty (drop s xs) (omega (arith, length-drop s xs)))
-    where
-      empty : (l : List ℕ) → length l ≡ 0 → l ≡ []
-      empty [] e = refl
-      empty (x ∷ l) e = absurd (omega arith)
   greedy-made F fe (suc m) s h f = go (λ p q. greedy-made F fe m (F s) p q) (lt-or-ge s (length xs))
     where
-      empty : (l : List ℕ) → length l ≡ 0 → l ≡ []
-      empty [] e = refl
-      empty (x ∷ l) e = absurd (omega arith)
-
       go : (F s ≤ length xs → length xs ≤ F s + m → (d : List ℕ) × Greedy limit gap (drop (F s) xs) d) → (s < length xs) ⊎ (length xs ≤ s)
           → (d : List ℕ) × Greedy limit gap (drop s xs) d
       go r (inr g) = ([], empty (drop s xs) (omega (arith, length-drop s xs)))

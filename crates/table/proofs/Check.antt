@@ -9,24 +9,14 @@ use native.Mathlib.Nat.{eq-or-lt-of-le}
 use native.Mathlib.Omega.{arith}
 use lib.ListN.{length, getD, take, drop, length-drop}
 use lib.IntN.{ℤ, pos}
-use lib.Dec.{T, leb, ltb, eqb, leb→le, le→leb, ltb→lt, lt→ltb, eqb→eq, eqb-refl, not-T, T-not}
+use lib.Dec.{T, leb, ltb, eqb, leb→le, le→leb, ltb→lt, lt→ltb, eqb→eq, not-T, T-not}
+use lib.Ieee.Fits.{and-i, and-l, and-r, eq→eqb}
 use Rattle.rule.specs.Natural.{Limit, natural, max-content, definite, definite-below-0, Fits, lineSize, Line, Valid, score, Better, Chosen, GreedyLine, Greedy}
 use Rattle.rule.specs.Rule.{MoreFirst, held}
 use Rattle.rule.specs.Rule as rule
 use Rattle.rule.proofs.Bridge.{size, balanced-is}
+use Rattle.rule.proofs.Exists.{empty}
 use Rattle.breaking.specs.Breaking as limit
-
-and-l : (a b : Bool) → T (a && b) → T a
-and-l true b t = tt
-and-l false b t = t
-
-and-r : (a b : Bool) → T (a && b) → T b
-and-r true b t = t
-and-r false b t = absurd t
-
-and-i : (a b : Bool) → T a → T b → T (a && b)
-and-i true b p q = q
-and-i false b p q = p
 
 or-case : (a b : Bool) → T (a || b) → T a ⊎ T b
 or-case true b t = inl tt
@@ -39,9 +29,6 @@ or-l false b t = absurd t
 or-r : (a b : Bool) → T b → T (a || b)
 or-r true b t = tt
 or-r false b t = t
-
-eq-eqb : (a b : ℕ) → a ≡ b → T (eqb a b)
-eq-eqb a b e = rw e (eqb-refl b)
 
 -- ---- every number below m
 abbrev below : ℕ → (ℕ → Bool) → Bool
@@ -111,7 +98,7 @@ lineB→ l g xs c after t = record {
     fit′ (inr h) = inr (fitsB→ l (lineSize g (take c xs)) h)
 
     zeros′ : c < length xs → getD xs c 1 ≡ 0 → T (not (ltb c (length xs) && eqb (getD xs c 1) 0)) ⊎ T R₃ → (¬ Fits l (lineSize g (take (c + 1) xs))) ⊎ (length xs - (c + 1) < after)
-    zeros′ p q (inl h) = absurd (T-not (ltb c (length xs) && eqb (getD xs c 1) 0) h (and-i (ltb c (length xs)) (eqb (getD xs c 1) 0) (lt→ltb c (length xs) p) (eq-eqb (getD xs c 1) 0 q)))
+    zeros′ p q (inl h) = absurd (T-not (ltb c (length xs) && eqb (getD xs c 1) 0) h (and-i (ltb c (length xs)) (eqb (getD xs c 1) 0) (lt→ltb c (length xs) p) (eq→eqb q)))
     zeros′ p q (inr h) = last (or-case (not (fitsB l (lineSize g (take (c + 1) xs)))) (ltb (length xs - (c + 1)) after) h)
       where
         last : T (not (fitsB l (lineSize g (take (c + 1) xs)))) ⊎ T (ltb (length xs - (c + 1)) after) → (¬ Fits l (lineSize g (take (c + 1) xs))) ⊎ (length xs - (c + 1) < after)
@@ -130,7 +117,7 @@ T-dec false = inr (λ t. t)
     A = ltb c (length xs) && eqb (getD xs c 1) 0
 
     one : (c ≡ 1) ⊎ Fits l (lineSize g (take c xs)) → T (eqb c 1 || fitsB l (lineSize g (take c xs)))
-    one (inl e) = or-l (eqb c 1) (fitsB l (lineSize g (take c xs))) (eq-eqb c 1 e)
+    one (inl e) = or-l (eqb c 1) (fitsB l (lineSize g (take c xs))) (eq→eqb e)
     one (inr e) = or-r (eqb c 1) (fitsB l (lineSize g (take c xs))) (→fitsB l (lineSize g (take c xs)) e)
 
     R₃ : Bool
@@ -149,16 +136,12 @@ abbrev validB : Limit → ℕ → List ℕ → List ℕ → Bool
 validB l g xs [] = eqb (length xs) 0
 validB l g xs (c ∷ d) = lineB l g xs c (length d) && validB l g (drop c xs) d
 
-empty : (xs : List ℕ) → length xs ≡ 0 → xs ≡ []
-empty [] e = refl
-empty (x ∷ xs) e = absurd (omega arith)
-
 validB→ : (l : Limit) (g : ℕ) (xs d : List ℕ) → T (validB l g xs d) → Valid l g xs d
 validB→ l g xs [] t = empty xs (eqb→eq (length xs) 0 t)
 validB→ l g xs (c ∷ d) t = (lineB→ l g xs c (length d) (and-l (lineB l g xs c (length d)) (validB l g (drop c xs) d) t), validB→ l g (drop c xs) d (and-r (lineB l g xs c (length d)) (validB l g (drop c xs) d) t))
 
 →validB : (l : Limit) (g : ℕ) (xs d : List ℕ) → Valid l g xs d → T (validB l g xs d)
-→validB l g xs [] v = eq-eqb (length xs) 0 (ap length v)
+→validB l g xs [] v = eq→eqb (ap length v)
 →validB l g xs (c ∷ d) v = and-i (lineB l g xs c (length d)) (validB l g (drop c xs) d) (→lineB l g xs c (length d) (v .0)) (→validB l g (drop c xs) d (v .1))
 
 -- every valid division is tried
