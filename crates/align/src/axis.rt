@@ -17,7 +17,7 @@ pub fn margin_or(share: f32, auto: u32, x: f32) -> f32
     share
 }
 
-// The used margins of one side.
+// The used margins of one side. No entry point.
 pub fn use_margins(share: f32, auto: &[u32], margins: &[f32], used: &mut [f32])
     requires { ⌜ (length (now auto) ≡ length (now margins)) × (length (now margins) ≤ length (now used)) × (length (now margins) ≤ 1024) ⌝ }
     ensures { λ _. ⌜ now (used .exit) ≡ overwritten (length (now (margins .entry))) (marginAt share (now (auto .entry)) (now (margins .entry))) (now (used .entry)) ⌝ }
@@ -54,7 +54,7 @@ fn step_all(n: usize, reversed: bool, first: f32, later: f32, cells: &mut [f32])
     }
 }
 
-// Items along a line, or lines along the cross axis, by a content alignment.
+// Items along a line, or lines along the cross axis, by a content alignment. No entry point.
 pub fn align_along(
     free: f32,
     n: usize,

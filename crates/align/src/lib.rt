@@ -158,7 +158,7 @@ fn position_offset(free: f32, reversed: bool, p: Position) -> f32
     }
 }
 
-// The step before the first item.
+// The step before the first item. No entry point.
 pub fn first_offset(free: f32, n: usize, reversed: bool, alignment: Resolved) -> f32
     requires { ⌜ n ≤ 1024 ⌝ }
     ensures { λ r. ⌜ r ≡ firstOffset free n reversed alignment ⌝ }
@@ -174,7 +174,7 @@ pub fn first_offset(free: f32, n: usize, reversed: bool, alignment: Resolved) ->
     }
 }
 
-// The step before each later item.
+// The step before each later item. No entry point.
 pub fn later_offset(free: f32, n: usize, gap: f32, alignment: Resolved) -> f32
     requires { ⌜ (0 < n) × (n ≤ 1024) ⌝ }
     ensures { λ r. ⌜ r ≡ laterOffset free n gap alignment ⌝ }

@@ -50,12 +50,15 @@ zeroedF n before = replicate n (ofBits binary64 0) ++ drop n before
 abbrev pub worked : ℕ → List ℕ → Lent → Lent
 worked n lines b = lent (written n lines (b .counts)) (zeroed (n * n + 3 * n) (b .work)) (zeroedF (3 * n) (b .sums))
 
--- the balanced division's counts in the lent lists
-pub record Divides (limit : AvailableSpace) (gap : Float) (minimum : ℕ) (sizes : List Float) (before : Lent) (lines : ℕ) (after : Lent) : Type 0 where
+-- the balanced division, with the lent lists left as `leaves` says
+pub record DividesLeaving (leaves : ℕ → List ℕ → Lent → Lent) (limit : AvailableSpace) (gap : Float) (minimum : ℕ) (sizes : List Float) (before : Lent) (lines : ℕ) (after : Lent) : Type 0 where
   pub division : List ℕ
   pub balanced : Balanced (limitOf limit) (sixtyFourths gap) (units sizes) minimum division
   pub lines-are : lines ≡ length division
-  pub cells : after ≡ worked (length sizes) division before
+  pub cells : after ≡ leaves (length sizes) division before
+
+abbrev pub Divides : AvailableSpace → Float → ℕ → List Float → Lent → ℕ → Lent → Type 0
+Divides = DividesLeaving worked
 
 -- THE CALL: it refuses by the checks and changes nothing, or it answers with the number of lines and leaves their counts. The codes are those that came
 -- before the limit

@@ -1,15 +1,11 @@
 -- What only the contracts of the call's parts cite: the search reads some lists while it writes others, so it takes eight, five of them the frame's. Assumes nothing.
-use mathlib.Core.Path.{_≡_}
 use mathlib.Core.List.{List}
 use Prim.Native.Nat.{ℕ, _+_, _*_, _≤_}
 use lib.ListN.{length}
 use lib.Ieee.{Float}
-use Rattle.grid.specs.Grid.{sixtyFourths}
 use Rattle.breaklimit.specs.declared.AvailableSpace.{AvailableSpace}
-use Rattle.breaking.specs.Breaking.{limitOf}
-use Rattle.breaking.specs.Calls.{units, written}
-use Rattle.rule.specs.Rule.{Balanced}
-use Rattle.balance.specs.Calls.{Lent, lent, zeroed, zeroedF}
+use Rattle.breaking.specs.Calls.{written}
+use Rattle.balance.specs.Calls.{Lent, lent, zeroed, zeroedF, DividesLeaving}
 
 -- the room of the lent lists for n items, as the checks show it
 abbrev pub Roomy : ℕ → Lent → Type 0
@@ -44,8 +40,5 @@ pub record Room (n : ℕ) (l : Lists) : Type 0 where
 abbrev pub searched : ℕ → List ℕ → Lent → Lent
 searched n lines b = lent (written n lines (b .counts)) (zeroed (n * n) (b .work)) (zeroedF n (b .sums))
 
-pub record Searched (limit : AvailableSpace) (gap : Float) (minimum : ℕ) (sizes : List Float) (before : Lent) (lines : ℕ) (after : Lent) : Type 0 where
-  pub division : List ℕ
-  pub balanced : Balanced (limitOf limit) (sixtyFourths gap) (units sizes) minimum division
-  pub lines-are : lines ≡ length division
-  pub cells : after ≡ searched (length sizes) division before
+abbrev pub Searched : AvailableSpace → Float → ℕ → List Float → Lent → ℕ → Lent → Type 0
+Searched = DividesLeaving searched

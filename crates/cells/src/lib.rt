@@ -5,7 +5,7 @@ ghost use lib.ListN.{length, getD};
 
 pub mod sums; // sums.rt: sums of the items, and the sizes of lines from them
 
-// The number in cell `i`.
+// The number in cell `i`. No entry point.
 pub fn at(a: &[u32], i: usize) -> usize
     requires { ⌜ i < length (now a) ⌝ }
     ensures { λ r. ⌜ r ≡ getD (now (a .entry)) i 0 ⌝ }

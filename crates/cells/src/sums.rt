@@ -16,7 +16,7 @@ fn before(sums: &[f64], start: usize) -> f64
     if start == 0 { 0.0 } else { sums[start - 1] }
 }
 
-// The size of the line that holds the items from `start` to `end`.
+// The size of the line that holds the items from `start` to `end`. No entry point.
 pub fn line_size(sums: &[f64], gap: Units, start: usize, end: usize) -> Units
     requires { ⌜ (start ≤ end) × (end < length (now sums)) ⌝ }
     ensures { λ r. ⌜ r .0 ≡ sizeF (now (sums .entry)) (gap .0) start end ⌝ }
@@ -25,7 +25,7 @@ pub fn line_size(sums: &[f64], gap: Units, start: usize, end: usize) -> Units
     Units(sums[end] - b - gap.0)
 }
 
-// What the sums up to a line's end hold besides the line that begins at `start`: the items before it, and one gap.
+// What the sums up to a line's end hold besides the line that begins at `start`: the items before it, and one gap. No entry point.
 pub fn base(sums: &[f64], gap: Units, start: usize) -> Units
     requires { ⌜ start ≤ length (now sums) ⌝ }
     ensures { λ r. ⌜ r .0 ≡ baseF (now (sums .entry)) (gap .0) start ⌝ }

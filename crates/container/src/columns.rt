@@ -15,7 +15,7 @@ pub fn column<'a>(xs: &'a [f32], n: usize, k: usize) -> &'a [f32]
     &xs[from..to]
 }
 
-// The same of their codes.
+// The same of their codes. No entry point.
 pub fn code_column<'a>(xs: &'a [u32], n: usize, k: usize) -> &'a [u32]
     requires { ⌜ Inside n k (now xs) ⌝ }
     ensures { λ r. ⌜ now r ≡ column n k (now (xs .entry)) ⌝ }

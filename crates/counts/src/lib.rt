@@ -70,7 +70,7 @@ fn line_item_counts(
     line_count
 }
 
-// The balanced division of accepted sizes. The counts past the last line are 0.
+// The balanced division of accepted sizes. The counts past the last line are 0. No entry point.
 pub fn counts_of_sizes(
     sizes: &[f32],
     gap: Units,

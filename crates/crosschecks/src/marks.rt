@@ -14,7 +14,7 @@ use refusal::Kind;
 use refusal::Mark;
 use refusal::least;
 
-// What a line's size turns on.
+// What a line's size turns on. No entry point.
 pub fn mark_cross_items<'a>(
     measured: &'a [f32],
     minimum: &'a [f32],
@@ -41,7 +41,7 @@ pub fn mark_cross_items<'a>(
     )
 }
 
-// What the items' places across their line turn on.
+// What the items' places across their line turn on. No entry point.
 pub fn mark_across<'a>(
     measured: &'a [f32],
     minimum: &'a [f32],

@@ -81,7 +81,7 @@ fn align_sized<'a>(
     )
 }
 
-// The same in the two lists by line that the pass is lent.
+// The same in the two lists by line that the pass is lent. No entry point.
 pub fn lines_along<'a>(
     c: Container,
     n: usize,
@@ -147,7 +147,7 @@ fn across_lines<'a>(
     );
 }
 
-// The same in the last four lists by item that the pass is lent.
+// The same in the last four lists by item that the pass is lent. No entry point.
 pub fn items_across<'a>(
     c: Container,
     n: usize,

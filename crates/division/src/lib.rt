@@ -70,7 +70,7 @@ fn cap(limit: AvailableSpace) -> Cap
     }
 }
 
-// The balanced division of accepted sizes, in lists of exactly the cells that it takes. The work lists are left zero.
+// The balanced division of accepted sizes, in lists of exactly the cells that it takes. The work lists are left zero. No entry point.
 pub fn divide(
     limit: AvailableSpace,
     gap: f32,

@@ -46,7 +46,7 @@ fn stretch(sums: &[f64], gap: Units, limit: Cap, start: usize, from: usize) -> u
     end
 }
 
-// The last item of the longest line from each start.
+// The last item of the longest line from each start. No entry point.
 pub fn fit_ends(sums: &[f64], gap: Units, limit: Cap, fit: &mut [u32])
     requires { ⌜ (length (now fit) ≡ length (now sums)) × (length (now sums) ≤ 1024) ⌝ }
     ensures { λ _. ⌜ FitsOut (now (sums .entry)) (gap .0) (limit .bounded) (limit .most .0) (now (fit .exit)) ⌝ }
@@ -61,7 +61,7 @@ pub fn fit_ends(sums: &[f64], gap: Units, limit: Cap, fit: &mut [u32])
     }
 }
 
-// How many lines greedy breaking makes of the items from each start on.
+// How many lines greedy breaking makes of the items from each start on. No entry point.
 pub fn suffix_greedy(fit: &[u32], greedy: &mut [u32])
     requires { ⌜ (length (now greedy) ≡ length (now fit)) × (length (now fit) ≤ 1024) × FitRange (now fit) ⌝ }
     ensures { λ _. ⌜ CountsFrom (now (fit .entry)) (now (greedy .exit)) 0 ⌝ }
@@ -88,7 +88,7 @@ fn past(fit: &[u32], start: usize) -> usize
     }
 }
 
-// How far the first lines reach: no division's line after the first `i` lines starts past cell `i`.
+// How far the first lines reach: no division's line after the first `i` lines starts past cell `i`. No entry point.
 pub fn forward(fit: &[u32], reach: &mut [u32])
     requires { ⌜ (length (now reach) ≡ length (now fit)) × (length (now fit) ≤ 1024) × FitRange (now fit) × Rising (now fit) ⌝ }
     ensures { λ _. ⌜ Reaches (now (fit .entry)) (now (reach .exit)) ⌝ }

@@ -8,7 +8,7 @@ ghost use lib.Ieee.{isNan, nan};
 ghost use Rattle.fitting.specs.Pixels.{scaledF, SizeOut, AddOut};
 use cells::sums::Units;
 
-// A length in pixels as sixty-fourths: exact, since an `f64` has room for every one.
+// A length in pixels as sixty-fourths: exact, since an `f64` has room for every one. No entry point.
 pub fn to_units(v: f32) -> Units
     requires { ⌜ T (not (isNan v)) ⌝ }
     ensures { λ r. ⌜ r .0 ≡ scaledF v ⌝ }
@@ -16,7 +16,7 @@ pub fn to_units(v: f32) -> Units
     Units((v as f64) * 64.0)
 }
 
-// A size in pixels as sixty-fourths, a negative one as 0.
+// A size in pixels as sixty-fourths, a negative one as 0. No entry point.
 pub fn to_size(v: f32) -> Units
     requires { ⌜ T (not (isNan v)) ⌝ }
     ensures { λ r. ⌜ SizeOut v (r .0) ⌝ }
@@ -24,7 +24,7 @@ pub fn to_size(v: f32) -> Units
     if 0.0 < v { to_units(v) } else { Units(0.0) }
 }
 
-// The sum of the items up to each, each with a gap after it.
+// The sum of the items up to each, each with a gap after it. No entry point.
 pub fn add_up(sizes: &[f32], gap: Units, sums: &mut [f64])
     requires { ⌜ (length (now sums) ≡ length (now sizes)) × (length (now sizes) ≤ 1024) × ((i : ℕ) → i < length (now sizes) → T (not (isNan (getD (now sizes) i nan)))) ⌝ }
     ensures { λ _. ⌜ AddOut (now (sizes .entry)) (gap .0) (now (sums .exit)) ⌝ }

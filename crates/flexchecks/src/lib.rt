@@ -71,7 +71,7 @@ fn mark_plain<'a>(
     least(mark_floats(Kind::Size, base), m)
 }
 
-// The least mark of all numbers that a line takes, of lists of one length.
+// The least mark of all numbers that a line takes, of lists of one length. No entry point.
 pub fn mark_numbers<'a>(
     inner: f32,
     gap: f32,

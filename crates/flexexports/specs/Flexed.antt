@@ -2,7 +2,7 @@
 use mathlib.Core.Path.{_≡_}
 use mathlib.Core.List.{List}
 use Prim.Native.Nat.{ℕ}
-use lib.IntN.{ℤ, pos}
+use lib.IntN.{ℤ}
 use lib.Ieee.{Float}
 use Rattle.refusal.specs.declared.Answer.{Answer}
 use Rattle.flexing.specs.Items.{Lists}
@@ -16,10 +16,6 @@ use Rattle.flexexports.specs.declared.CFlexed.{CFlexed}
 -- an answer's number and place, the free space and the rounds
 abbrev pub cFlexed : Values → CFlexed
 cFlexed v = record { number = v .number; at = whereCode (v .place); place = whereIndex (v .place); free = v .free; rounds = v .rounds }
-
--- a refusal, which has no free space to tell of
-abbrev pub cNothing : CAnswer → CFlexed
-cNothing r = record { number = r .number; at = r .at; place = r .place; free = pos 0; rounds = r .rounds }
 
 -- one line
 pub record FlexedFromC (inner gap : Float) (ls : Lists) (r : CFlexed) (old new : List Float) : Type 0 where

@@ -1,1 +1,2 @@
 pub mod Flexed
+pub mod Parts

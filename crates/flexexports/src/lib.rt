@@ -2,7 +2,8 @@
 ghost use mathlib.Core.Path.{_≡_};
 ghost use Rattle.flexing.specs.Items.{lists};
 ghost use Rattle.flexcalls.specs.Call.{valuesOf};
-ghost use Rattle.flexexports.specs.Flexed.{cFlexed, cNothing, FlexedFromC, FlexedLinesFromC};
+ghost use Rattle.flexexports.specs.Flexed.{cFlexed, FlexedFromC, FlexedLinesFromC};
+ghost use Rattle.flexexports.specs.Parts.{cNothing};
 use crossing::CAnswer;
 use flexcalls::FlexAnswer;
 

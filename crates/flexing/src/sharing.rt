@@ -22,7 +22,7 @@ pub fn is_growing(free: grid::Sixtyfourths) -> bool
     free.0 > 0
 }
 
-// The space that the outer sizes of n items leave.
+// The space that the outer sizes of n items leave. No entry point.
 pub fn space_left(inner: f32, gap: f32, n: usize, outer: f32) -> f32
     requires { ⌜ n ≤ 1024 ⌝ }
     ensures { λ r. ⌜ r ≡ spaceLeft inner gap n outer ⌝ }
@@ -30,7 +30,7 @@ pub fn space_left(inner: f32, gap: f32, n: usize, outer: f32) -> f32
     inner - (sum_axis_gaps(gap, n) + outer)
 }
 
-// One item more.
+// One item more. No entry point.
 pub fn add_up(s: Sums, it: Item, growing: bool, frozen: bool, target: f32) -> Sums
     requires { ⌜ s .left ≤ 1024 ⌝ }
     ensures { λ r. ⌜ Added growing it frozen target s r ⌝ }
@@ -70,7 +70,7 @@ fn limit(initial: f32, factors: f32, free: f32) -> f32
     free
 }
 
-// What a round shares out, from its sums.
+// What a round shares out, from its sums. No entry point.
 pub fn share_of(ln: Line, n: usize, s: Sums) -> Share
     requires { ⌜ n ≤ 1024 ⌝ }
     ensures { λ r. ⌜ r ≡ shareOf ln n s ⌝ }

@@ -18,7 +18,7 @@ fn wide(c: u32) -> usize
     c as usize
 }
 
-// Whether the counts are positive and sum to n.
+// Whether the counts are positive and sum to n. No entry point.
 pub fn is_division(counts: &[u32], n: usize) -> bool
     requires { ⌜ length (now counts) ≤ 1024 ⌝ }
     ensures { λ r. ⌜ r ≡ divides (now (counts .entry)) n ⌝ }
@@ -96,7 +96,7 @@ fn clear_rounds(rounds: &mut [u32], from: usize, n: usize)
     }
 }
 
-// All lines, and 0 in the cells past the last. What it asks is what checks 1 to 6 show.
+// All lines, and 0 in the cells past the last. What it asks is what checks 1 to 6 show. No entry point.
 pub fn flex_all<'a>(
     table: &'a [f32],
     n: usize,

@@ -115,7 +115,7 @@ fn parse_later(bytes: &[u8]) -> Parsed
     }
 }
 
-// What the bytes are that have come of a record. More bytes change neither a record nor a fault.
+// What the bytes are that have come of a record. More bytes change neither a record nor a fault. No entry point.
 pub fn parse(stage: Stage, bytes: &[u8]) -> Parsed
     requires { ⌜ 0 < length (now bytes) ⌝ }
     ensures { λ r. ⌜ r ≡ front stage (now (bytes .entry)) ⌝ }

@@ -13,7 +13,7 @@ use flexing::Item;
 
 pub mod sum; // sum.rt: check 6, of a table's items
 
-// Item i.
+// Item i. No entry point.
 pub fn pick(table: &[f32], i: usize) -> Item
     requires { ⌜ Wide (now table) (i + 1) ⌝ }
     ensures { λ r. ⌜ r ≡ itemIn (now (table .entry)) i ⌝ }
@@ -31,7 +31,7 @@ pub fn pick(table: &[f32], i: usize) -> Item
     }
 }
 
-// A list of the items' numbers, each as its item's cell of that place. -0.0 is read as 0.0.
+// A list of the items' numbers, each as its item's cell of that place. -0.0 is read as 0.0. No entry point.
 pub fn store(xs: &[f32], column: usize, table: &mut [f32])
     requires { ⌜ Wide (now table) (length (now xs)) × (column < 8) ⌝ }
     ensures { λ _. ⌜ Stored column (length (now (xs .entry))) (read (now (xs .entry))) (now (table .entry)) (now (table .exit)) ⌝ }
@@ -77,7 +77,7 @@ fn infinity() -> f32
     1.0 / 0.0
 }
 
-// The items of the lists of a call.
+// The items of the lists of a call. No entry point.
 pub fn read_items<'a>(
     base: &'a [f32],
     minimum: &'a [f32],

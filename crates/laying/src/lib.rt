@@ -73,7 +73,7 @@ pub struct Layout {
     pub inner_cross: f32,
 }
 
-// All of an accepted run.
+// All of an accepted run. No entry point.
 pub fn lay_out<'a>(
     c: Container,
     n: usize,

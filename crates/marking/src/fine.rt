@@ -24,7 +24,7 @@ pub fn are_fine(kind: Kind, xs: &[f32]) -> bool
     ok
 }
 
-// Whether those are whose code is `taken`.
+// Whether those are whose code is `taken`. No entry point.
 pub fn are_fine_where<'a>(kind: Kind, xs: &'a [f32], codes: &'a [u32], taken: u32) -> bool
     requires { ⌜ length (now codes) ≡ length (now xs) ⌝ }
     ensures { λ r. ⌜ r ≡ every (λ i. not (eqb (getD (now (codes .entry)) i 0) taken) || fine (float kind (getD (now (xs .entry)) i nan))) (length (now (xs .entry))) ⌝ }

@@ -24,7 +24,7 @@ mod fine; // fine.rt: whether a list has no mark at all
 pub mod lists; // lists.rt: the marks of whole lists, as numbers that the items have
 
 // The least mark of a list of items' numbers. Most lists have none, which is soon told of all numbers together; only then are they gone
-// through one by one.
+// through one by one. No entry point.
 pub fn mark_floats(kind: Kind, xs: &[f32]) -> Mark
     requires { ⌜ length (now xs) ≤ 1024 ⌝ }
     ensures { λ r. ⌜ r .0 ≡ leastUpTo (λ i. mark (float kind (getD (now (xs .entry)) i nan)) (i + 1)) (length (now (xs .entry))) ⌝ }
@@ -41,7 +41,7 @@ pub fn mark_floats(kind: Kind, xs: &[f32]) -> Mark
     m
 }
 
-// The least mark of the items' numbers whose code is `taken`.
+// The least mark of the items' numbers whose code is `taken`. No entry point.
 pub fn mark_floats_where<'a>(kind: Kind, xs: &'a [f32], codes: &'a [u32], taken: u32) -> Mark
     requires { ⌜ (length (now xs) ≤ 1024) × (length (now codes) ≡ length (now xs)) ⌝ }
     ensures { λ r. ⌜ r .0 ≡ leastUpTo (λ i. leastOf (optional (eqb (getD (now (codes .entry)) i 0) taken) (float kind (getD (now (xs .entry)) i nan))) (i + 1)) (length (now (xs .entry))) ⌝ }
@@ -62,7 +62,7 @@ pub fn mark_floats_where<'a>(kind: Kind, xs: &'a [f32], codes: &'a [u32], taken:
     m
 }
 
-// The least mark of a list of codes, each one of 0 to `most`.
+// The least mark of a list of codes, each one of 0 to `most`. No entry point.
 pub fn mark_codes(most: u32, codes: &[u32]) -> Mark
     requires { ⌜ length (now codes) ≤ 1024 ⌝ }
     ensures { λ r. ⌜ r .0 ≡ leastUpTo (λ i. mark (code most (getD (now (codes .entry)) i 0)) (i + 1)) (length (now (codes .entry))) ⌝ }
@@ -79,7 +79,7 @@ pub fn mark_codes(most: u32, codes: &[u32]) -> Mark
     m
 }
 
-// The sum of check 6 over a list of lengths.
+// The sum of check 6 over a list of lengths. No entry point.
 pub fn sum_floats(xs: &[f32], gap: f32) -> u64
     requires { ⌜ (length (now xs) ≤ 1024) × Length gap × Lengths (now xs) ⌝ }
     ensures { λ r. ⌜ r ≡ sumUpTo (λ i. natAbs (sixtyFourths (getD (now (xs .entry)) i nan)) + natAbs (sixtyFourths gap)) (length (now (xs .entry))) ⌝ }

@@ -8,7 +8,7 @@ ghost use Rattle.refusal.specs.Lists.{floatAt, codeAt, besideAt};
 use refusal::Kind;
 use refusal::Mark;
 
-// Every item's float of one kind.
+// Every item's float of one kind. No entry point.
 pub fn mark_list(kind: Kind, xs: &[f32]) -> Mark
     requires { ⌜ length (now xs) ≤ 1024 ⌝ }
     ensures { λ r. ⌜ r .0 ≡ leastUpTo (λ i. leastOf (floatAt kind (now (xs .entry)) i) (i + 1)) (length (now (xs .entry))) ⌝ }
@@ -16,7 +16,7 @@ pub fn mark_list(kind: Kind, xs: &[f32]) -> Mark
     crate::mark_floats(kind, xs)
 }
 
-// Every item's code, one of 0 to `most`.
+// Every item's code, one of 0 to `most`. No entry point.
 pub fn mark_code_list(most: u32, codes: &[u32]) -> Mark
     requires { ⌜ length (now codes) ≤ 1024 ⌝ }
     ensures { λ r. ⌜ r .0 ≡ leastUpTo (λ i. leastOf (codeAt most (now (codes .entry)) i) (i + 1)) (length (now (codes .entry))) ⌝ }
@@ -24,7 +24,7 @@ pub fn mark_code_list(most: u32, codes: &[u32]) -> Mark
     crate::mark_codes(most, codes)
 }
 
-// Every item's code, 0 or 1, and the float beside it where the code is `taken`.
+// Every item's code, 0 or 1, and the float beside it where the code is `taken`. No entry point.
 pub fn mark_beside<'a>(kind: Kind, xs: &'a [f32], codes: &'a [u32], taken: u32) -> Mark
     requires { ⌜ (length (now xs) ≤ 1024) × (length (now codes) ≡ length (now xs)) ⌝ }
     ensures { λ r. ⌜ r .0 ≡ leastUpTo (λ i. leastOf (besideAt kind taken (now (xs .entry)) (now (codes .entry)) i) (i + 1)) (length (now (xs .entry))) ⌝ }

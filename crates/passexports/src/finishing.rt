@@ -42,7 +42,7 @@ fn passed_to_c(a: PassAnswer) -> CPassed
     }
 }
 
-// The pass over the first m items of the unpacked lists.
+// The pass over the first m items of the unpacked lists. No entry point.
 pub fn finish<'a>(
     c: Container,
     m: usize,

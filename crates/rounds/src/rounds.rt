@@ -15,6 +15,7 @@ use flexing::sizes::flexed_size;
 use flexing::sizes::is_frozen;
 use itemtable::pick;
 
+// The sums before a round: what all items take, the factors and weights of the unfrozen ones, and how many those are. No entry point.
 pub fn sum_up(
     table: &[f32],
     from: usize,
@@ -97,7 +98,7 @@ fn settle_all(
     }
 }
 
-// A round, with the sums before it.
+// A round, with the sums before it. No entry point.
 pub fn one_round(
     table: &[f32],
     from: usize,

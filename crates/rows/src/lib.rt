@@ -56,7 +56,7 @@ fn fill_row<'a>(
     }
 }
 
-// The first row: one line takes all that is left.
+// The first row: one line takes all that is left. No entry point.
 pub fn first_row(sums: &[f64], gap: Units, prev: &mut [f64])
     requires { ⌜ (length (now prev) ≡ length (now sums)) × (length (now sums) ≤ 1024) × (0 < length (now sums)) ⌝ }
     ensures { λ _. ⌜ ((s : ℕ) → s < length (now (sums .entry)) → getD (now (prev .exit)) s nan ≡ mul binary64 (sizeF (now (sums .entry)) (gap .0) s (length (now (sums .entry)) - 1)) (sizeF (now (sums .entry)) (gap .0) s (length (now (sums .entry)) - 1))) ⌝ }
@@ -133,7 +133,7 @@ fn one_row<'a>(
     copy_row(prev, cur, start_lo, start_hi);
 }
 
-// The rows for 2 lines up to `line_count`. A row has only the starts that the rows after it, or the read-back, ask for.
+// The rows for 2 lines up to `line_count`. A row has only the starts that the rows after it, or the read-back, ask for. No entry point.
 pub fn rows<'a>(
     sums: &'a [f64],
     gap: Units,

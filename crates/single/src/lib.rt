@@ -55,7 +55,7 @@ pub fn is_fine(b: Bounds, x: f32) -> bool
     in_range(b, x) & (b.free | grid::is_multiple(x))
 }
 
-// The mark of a float. The container's place is 0, item i's is i + 1.
+// The mark of a float. The container's place is 0, item i's is i + 1. No entry point.
 pub fn mark_float(kind: Kind, x: f32, place: u32) -> Mark
     requires { ⌜ place ≤ 1024 ⌝ }
     ensures { λ r. ⌜ r .0 ≡ mark (float kind x) place ⌝ }
@@ -74,7 +74,7 @@ pub fn mark_float(kind: Kind, x: f32, place: u32) -> Mark
     }
 }
 
-// The mark of a float that may be absent.
+// The mark of a float that may be absent. No entry point.
 pub fn mark_given(kind: Kind, x: f32, given: bool, place: u32) -> Mark
     requires { ⌜ place ≤ 1024 ⌝ }
     ensures { λ r. ⌜ r .0 ≡ leastOf (optional given (float kind x)) place ⌝ }
@@ -86,7 +86,7 @@ pub fn mark_given(kind: Kind, x: f32, given: bool, place: u32) -> Mark
     }
 }
 
-// The mark of a code, which is one of 0 to `most`.
+// The mark of a code, which is one of 0 to `most`. No entry point.
 pub fn mark_code(most: u32, c: u32, place: u32) -> Mark
     requires { ⌜ place ≤ 1024 ⌝ }
     ensures { λ r. ⌜ r .0 ≡ mark (code most c) place ⌝ }
@@ -106,7 +106,7 @@ fn magnitude(v: grid::Sixtyfourths) -> u64
     if n < 0 { (0 - n) as u64 } else { n as u64 }
 }
 
-// One item more in the sum of check 6: the magnitude of its outer main size, and a gap.
+// One item more in the sum of check 6: the magnitude of its outer main size, and a gap. No entry point.
 pub fn add_outer(total: u64, size: grid::Sixtyfourths, gap: grid::Sixtyfourths) -> u64
     requires { ⌜ (total ≤ 274877906944) × (natAbs (size .0) ≤ 67108864) × (natAbs (gap .0) ≤ 16777216) ⌝ }
     ensures { λ r. ⌜ r ≡ total + (natAbs (size .0) + natAbs (gap .0)) ⌝ }

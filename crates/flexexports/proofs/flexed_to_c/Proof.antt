@@ -6,7 +6,8 @@ use mir.ValLaws.{toZ-ofZ}
 use Rattle.refusal.specs.Domain.{nowhere}
 use Rattle.flexcalls.specs.declared.FlexAnswer.{FlexAnswer}
 use Rattle.flexcalls.specs.Call.{valuesOf}
-use Rattle.flexexports.specs.Flexed.{cFlexed, cNothing}
+use Rattle.flexexports.specs.Flexed.{cFlexed}
+use Rattle.flexexports.specs.Parts.{cNothing}
 use borrow.Author.Needs.{needs}
 use Rattle.flexexports.proofs.flexed_to_c.Statement.{statement}
 use Rattle.flexexports.proofs.flexed_to_c.Tie as tie
