@@ -1,0 +1,26 @@
+-- `grid::lowest_digit` meets its contract: the law of proofs/Lowest. Assumes nothing.
+use mathlib.Core.Path.{_≡_}
+use Prim.Native.Nat.{ℕ, _+_, _-_, _<_}
+use native.Mathlib.Omega.{arith}
+use borrow.Author.Needs.{needs}
+use Rattle.grid.proofs.Lowest.{lowest-and}
+use Rattle.grid.proofs.lowest_digit.Statement.{statement}
+use Rattle.grid.proofs.lowest_digit.Tie as tie
+
+sub-result : tie.Need-sub-result
+sub-result c = search needs
+
+add-result : tie.Need-add-result
+add-result c = search needs
+
+returns : tie.Need-returns
+returns c = let q = c .args .q in lowest-and 32 q (4294967295 - q + 1) (c .pre) (some q) (whole q (c .good .0 .1))
+  where
+    some : (q : ℕ) → 0 < 4294967295 - q + 1
+    some q = omega arith
+
+    whole : (q : ℕ) → q < 4294967296 → q + (4294967295 - q + 1) ≡ 4294967296
+    whole q h = omega arith
+
+pub lowest-digit-spec : {M : Type 1} → statement M
+lowest-digit-spec = tie.close (tie.spec sub-result add-result returns)
