@@ -1,5 +1,5 @@
--- Which bits are those of a multiple of 1/64. A float with the exponent's field e is an odd number times 2 ^ (k + e - 150), where k is the place of the
--- lowest digit 1, the leading digit counted: it is on the grid where k + e is at least 144. Assumes nothing.
+-- Which bits are those of a multiple of 1/64. With e from 1 up in the exponent's field a finite float is an odd number times 2 ^ (k + e - 150), where k is
+-- the place of the lowest digit 1, the leading digit counted: on the grid exactly where k + e is at least 144. With e = 0 only a zero is. Assumes nothing.
 use mathlib.Core.Path.{_≡_, refl, sym, ap, ap₂, _∙_, subst}
 use mathlib.Core.Logic.{_⊎_, inl, inr}
 use mathlib.Core.Bool.{Bool, true, false, not, _&&_, _||_, cond}
@@ -51,18 +51,11 @@ grid-lowest s q m k e h =
     ∙ ap (λ (n : ℕ). eqb (n % 2 ^ 149) 0) (ap (λ (n : ℕ). n * 2 ^ (e + 6)) h ∙ mul-assoc (m * 2 + 1) (2 ^ k) (2 ^ (e + 6)) ∙ ap (λ (n : ℕ). (m * 2 + 1) * n) (sym (pow-add 2 k (e + 6))))
     ∙ odd-divides m (k + (e + 6)) 149
 
--- below the least exponent no digit reaches the grid
+-- with 0 in the exponent's field there is no leading digit, and only 0 is on the grid
 grid-none : (s : Bool) (t : ℕ) → t < 8388608 → onGrid (odd 24 s t 0 149) ≡ eqb t 0
-grid-none s t h = grid-odd s t 0 ∙ ap (λ (n : ℕ). eqb n 0) (mod-eq-of-lt (lt-of-lt-of-le (under t h) (pow-mono {i = 29} {j = 149} (lit≤ tt)))) ∙ same-zero (t * 64) t (gone t) (back t)
-  where
-    under : (t : ℕ) → t < 8388608 → t * 64 < 536870912
-    under t h = omega arith
-
-    gone : (t : ℕ) → t * 64 ≡ 0 → t ≡ 0
-    gone t h = omega arith
-
-    back : (t : ℕ) → t ≡ 0 → t * 64 ≡ 0
-    back t h = omega arith
+grid-none s t h =
+    let u : t * 64 < 536870912 = omega (arith, h) in
+    grid-odd s t 0 ∙ ap (λ (n : ℕ). eqb n 0) (mod-eq-of-lt (lt-of-lt-of-le u (pow-mono {i = 29} {j = 149} (lit≤ tt)))) ∙ same-zero (t * 64) t (λ e. omega (arith, e)) (λ e. omega (arith, e))
 
 -- ---- the test of the code, by the place k of the lowest digit 1 and the bits d without the sign
 abbrev pub tested : ℕ → ℕ → Bool
@@ -71,15 +64,13 @@ tested k d = ltb 270 (k + 127 + d / 8388608) || eqb d 0
 far-enough : (k e : ℕ) → leb 149 (k + (e + 6)) ≡ ltb 270 (k + 127 + suc e)
 far-enough k e = go (leb 149 (k + (e + 6))) refl
   where
-    reached : (k e : ℕ) → 149 ≤ k + (e + 6) → 270 < k + 127 + suc e
-    reached k e h = omega arith
-
-    short : (k e : ℕ) → k + (e + 6) < 149 → k + 127 + suc e ≤ 270
-    short k e h = omega arith
-
     go : (b : Bool) → leb 149 (k + (e + 6)) ≡ b → b ≡ ltb 270 (k + 127 + suc e)
-    go true h = sym (lt-ltb 270 (k + 127 + suc e) (reached k e (leb-true 149 (k + (e + 6)) h)))
-    go false h = sym (le-ltb 270 (k + 127 + suc e) (short k e (leb-false 149 (k + (e + 6)) h)))
+    go true h = sym (lt-ltb 270 (k + 127 + suc e) (omega (arith, leb-true 149 (k + (e + 6)) h)))
+    go false h = sym (le-ltb 270 (k + 127 + suc e) (omega (arith, leb-false 149 (k + (e + 6)) h)))
+
+or-false : (b : Bool) → (b || false) ≡ b
+or-false true = refl
+or-false false = refl
 
 not-finite : (b : Bool) (s : Bool) → finite (cond b (inf s) nan) ≡ true → ⊥
 not-finite true s h = subst T (sym h) tt
@@ -89,29 +80,18 @@ not-finite false s h = subst T (sym h) tt
 fields-grid : (s : Bool) (e t m k : ℕ) → 8388608 + t ≡ (m * 2 + 1) * 2 ^ k → k < 24 → t < 8388608 → finite (ofFields binary32 s e t) ≡ true
     → onGrid (ofFields binary32 s e t) ≡ (ltb 270 (k + 127 + e) || eqb (e * 8388608 + t) 0)
 unfolding ofFields
-fields-grid s zero t m k q p h f = grid-none s t h ∙ sym (ap (λ (b : Bool). b || eqb (0 * 8388608 + t) 0) (le-ltb 270 (k + 127 + 0) (near k p)) ∙ ap (λ (n : ℕ). eqb n 0) (plain t))
-  where
-    near : (k : ℕ) → k < 24 → k + 127 + 0 ≤ 270
-    near k p = omega arith
-
-    plain : (t : ℕ) → 0 * 8388608 + t ≡ t
-    plain t = omega arith
+fields-grid s zero t m k q p h f =
+    let z : t ≡ 0 * 8388608 + t = omega arith in
+    grid-none s t h ∙ ap (λ (n : ℕ). eqb n 0) z ∙ sym (ap (λ (b : Bool). b || eqb (0 * 8388608 + t) 0) (le-ltb 270 (k + 127 + 0) (omega (arith, p))))
 fields-grid s (suc e) t m k q p h f = go (eqb (suc e) 255) f
   where
-    some : (e t : ℕ) → 0 < suc e * 8388608 + t
-    some e t = omega arith
-
-    or-false : (b : Bool) → (b || false) ≡ b
-    or-false true = refl
-    or-false false = refl
-
     go : (b : Bool) → finite (cond b (cond (eqb t 0) (inf s) nan) (odd 24 s (8388608 + t) e 149)) ≡ true
         → onGrid (cond b (cond (eqb t 0) (inf s) nan) (odd 24 s (8388608 + t) e 149)) ≡ (ltb 270 (k + 127 + suc e) || eqb (suc e * 8388608 + t) 0)
     go true g = absurd (not-finite (eqb t 0) s g)
     go false g =
         grid-lowest s (8388608 + t) m k e q
         ∙ far-enough k e
-        ∙ sym (ap (λ (b : Bool). ltb 270 (k + 127 + suc e) || b) (not-zero (suc e * 8388608 + t) (some e t)) ∙ or-false (ltb 270 (k + 127 + suc e)))
+        ∙ sym (ap (λ (b : Bool). ltb 270 (k + 127 + suc e) || b) (not-zero (suc e * 8388608 + t) (omega arith)) ∙ or-false (ltb 270 (k + 127 + suc e)))
 
 -- ---- the bits b with the leading digit, which are q but for what stands above it
 pub with-lead : (b : ℕ) → bitOr b 8388608 % 2 ^ 24 ≡ 8388608 + b % 8388608
@@ -127,17 +107,11 @@ with-lead b =
 
 module _ (b q : ℕ) (e : q % 16777216 ≡ 8388608 + b % 8388608) where
   pub lead-some : 0 < q
-  lead-some = some q (b % 8388608) e
-    where
-      some : (q t : ℕ) → q % 16777216 ≡ 8388608 + t → 0 < q
-      some q t e = omega arith
+  lead-some = omega (arith, e)
 
   module _ (r : ℕ) (l : Lowest q r) where
     pub lead-place : l .place < 24
-    lead-place = place-below 24 l (subst (λ (n : ℕ). 0 < n) (sym e) (some (b % 8388608)))
-      where
-        some : (t : ℕ) → 0 < 8388608 + t
-        some t = omega arith
+    lead-place = place-below 24 l (omega (arith, e))
 
     pub bits-grid : finite (ofBits binary32 b) ≡ true → tested (l .place) (b % 2147483648) ≡ onGrid (ofBits binary32 b)
     unfolding ofBits
@@ -179,7 +153,7 @@ pub power-in : (k : ℕ) → k < 24 → T (inFloat binary32 (pos (2 ^ k)))
 unfolding inFloat
 power-in k h = le→leb (2 ^ k) 16777216 (pow-mono {i = k} {j = 24} (le-of-lt h))
 
--- ---- from 131,072 px up every float is on the grid
+-- ---- from 131,072 px up every finite float is on the grid
 divides : (m k : ℕ) → k ≤ 6 → m * 64 % 2 ^ k ≡ 0
 divides m k h =
     ap (λ (n : ℕ). m * n % 2 ^ k) (sym (ap (λ (n : ℕ). 2 ^ n) (add-comm (6 - k) k ∙ add-sub-of-le h)) ∙ pow-add 2 (6 - k) k)
@@ -191,10 +165,7 @@ large m (pos k) h l = mod-one (m * 2 ^ k * 64)
 large m (negsuc k) h l =
     let a : 2 ^ (17 + suc k) < 2 ^ 24 = lt-of-le-of-lt (le-trans (le-of-eq (pow-add 2 17 (suc k))) (le-trans l (le-of-eq (mul-one m)))) h in
     let b : 17 + suc k < 24 = lt-of-not-le (λ (g : 24 ≤ 17 + suc k). not-le-of-lt a (pow-mono g)) in
-    ap (λ (n : ℕ). n * 64 % 2 ^ suc k) (mul-one m) ∙ divides m (suc k) (shallow k b)
-  where
-    shallow : (k : ℕ) → 17 + suc k < 24 → suc k ≤ 6
-    shallow k h = omega arith
+    ap (λ (n : ℕ). n * 64 % 2 ^ suc k) (mul-one m) ∙ divides m (suc k) (omega (arith, b))
 
 over : (m : ℕ) (e : ℤ) → lt (fin false m e) (two^ 17) ≡ false → 2 ^ 17 * down e ≤ m * up e
 unfolding lt
@@ -204,13 +175,10 @@ pub far-grid : (x : Float) → T (fits binary32 x) → finite x ≡ true → lt 
 unfolding onGrid lt
 far-grid nan t f h = absurd (subst T (sym f) tt)
 far-grid (inf s) t f h = absurd (subst T (sym f) tt)
-far-grid (fin true m e) t f h = absurd (subst T (sym (lt-ltb 0 (m * up e * 1 + 1 * 2 ^ 17 * down e) (some (m * up e * 1) (down e) (down-pos e))) ∙ h) tt)
-  where
-    some : (a d : ℕ) → 0 < d → 0 < a + 1 * 131072 * d
-    some a d h = omega arith
+far-grid (fin true m e) t f h = absurd (subst T (sym (lt-ltb 0 (m * up e * 1 + 1 * 2 ^ 17 * down e) (omega (arith, down-pos e))) ∙ h) tt)
 far-grid (fin false m e) t f h = is-true (eqb (m * up e * 64 % down e) 0) (subst (λ (n : ℕ). T (eqb n 0)) (sym (large m e (fits-size binary32 false m e t .0) (over m e h))) tt)
 
--- no other float is on the grid
+-- what is not finite is not on the grid
 pub finite-grid : (x : Float) (b : Bool) → (finite x ≡ true → b ≡ onGrid x) → (finite x && b) ≡ onGrid x
 unfolding onGrid
 finite-grid nan b h = refl

@@ -2,7 +2,7 @@
 use mathlib.Core.Path.{_≡_}
 use Prim.Native.Nat.{ℕ, _+_, _*_, _^_}
 
--- r is the lowest digit 1 of q by itself: q is an odd number times r, a power of 2
+-- r is the lowest digit 1 of q by itself: r is 2 ^ place, and q is r times an odd number, above * 2 + 1
 pub record Lowest (q r : ℕ) : Type 0 where
   pub place : ℕ
   pub above : ℕ

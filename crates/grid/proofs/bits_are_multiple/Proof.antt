@@ -2,9 +2,8 @@
 use mathlib.Core.Path.{_≡_, sym, ap, _∙_, subst}
 use mathlib.Core.Bool.{true, not, _||_}
 use Prim.Native.Nat.{ℕ, _+_, _*_, _/_, _%_, _<_}
-use native.Mathlib.Nat.{mod-lt}
 use native.Mathlib.Omega.{arith}
-use lib.Dec.{T, ltb, eqb, lit<}
+use lib.Dec.{T, ltb, eqb}
 use lib.IntN.{pos}
 use lib.Ieee.{binary32, isNan, ofBits, ofInt, inFloat, toBits}
 use lib.Ieee.Scale.{finite}
@@ -33,19 +32,14 @@ module _ (b q r : ℕ) (e : q % 16777216 ≡ 8388608 + b % 8388608) (l : Lowest 
   bits = ap (λ (n : ℕ). toBits binary32 (ofInt binary32 (pos n))) (l .power) ∙ power-bits (l .place) (lead-place b q e r l)
 
   sum-fits : toBits binary32 (ofInt binary32 (pos r)) + b % 2147483648 < 4294967296
-  sum-fits = subst (λ (n : ℕ). n + b % 2147483648 < 4294967296) (sym bits) (small (l .place) (b % 2147483648) (lead-place b q e r l) (mod-lt b (lit< tt)))
-    where
-      small : (k d : ℕ) → k < 24 → d < 2147483648 → (k + 127) * 8388608 + d < 4294967296
-      small k d p h = omega arith
+  sum-fits = omega (arith, bits, lead-place b q e r l)
 
   answer : finite (ofBits binary32 b) ≡ true
       → (ltb 270 ((toBits binary32 (ofInt binary32 (pos r)) + b % 2147483648) / 8388608) || eqb (b % 2147483648) 0) ≡ onGrid (ofBits binary32 b)
   answer f =
       let d = b % 2147483648 in
-      ap (λ (n : ℕ). ltb 270 n || eqb d 0) (ap (λ (n : ℕ). (n + d) / 8388608) bits ∙ both (l .place) d) ∙ bits-grid b q e r l f
-    where
-      both : (k d : ℕ) → ((k + 127) * 8388608 + d) / 8388608 ≡ k + 127 + d / 8388608
-      both k d = omega arith
+      let s : (toBits binary32 (ofInt binary32 (pos r)) + d) / 8388608 ≡ l .place + 127 + d / 8388608 = omega (arith, bits) in
+      ap (λ (n : ℕ). ltb 270 n || eqb d 0) s ∙ bits-grid b q e r l f
 
 -- ---- the needs
 int-to-float-power : tie.Need-int-to-float-power
