@@ -4,7 +4,7 @@ use mathlib.Core.Path.{_≡_, refl, sym, ap, ap₂, _∙_, subst}
 use mathlib.Core.Logic.{_⊎_, inl, inr}
 use mathlib.Core.Bool.{Bool, true, false, not, _&&_, _||_, cond}
 use Prim.Native.Nat.{ℕ, zero, suc, _+_, _-_, _*_, _/_, _%_, _^_, _≤_, _<_}
-use native.Mathlib.Nat.{eq-or-lt-of-le, le-of-suc-le-suc, le-of-lt, le-trans, le-of-eq, lt-of-lt-of-le, lt-of-le-of-lt, lt-of-not-le, not-le-of-lt, add-zero, add-comm, add-sub-of-le, one-mul, mul-one, mul-assoc, mul-right-comm, mul-mod-left, mod-one, mod-lt, mod-eq-of-lt, mod-mod-of-dvd, dvd-mul-right, eq-of-mul-eq-mul-right, div-add-mod'}
+use native.Mathlib.Nat.{eq-or-lt-of-le, le-of-suc-le-suc, le-of-lt, le-trans, le-of-eq, lt-of-lt-of-le, lt-of-le-of-lt, lt-of-not-le, not-le-of-lt, add-zero, one-mul, mul-one, mul-assoc, mul-right-comm, mul-mod-left, mod-one, mod-lt, mod-eq-of-lt, mod-mod-of-dvd, dvd-mul-right, eq-of-mul-eq-mul-right, div-add-mod'}
 use native.Mathlib.Omega.{arith}
 use lib.Dec.{T, leb, ltb, eqb, eqb→eq, le→leb, nltb→le, lit<, lit≤, eqb·suc-zero}
 use lib.Bits.{bitOr, or-mod, or-block, or-zero-r}
@@ -20,7 +20,7 @@ use Rattle.grid.specs.Grid.{onGrid}
 use Rattle.grid.specs.Bits.{Lowest}
 use Rattle.grid.proofs.Meaning.{fits-size}
 use Rattle.grid.proofs.Range.{two^}
-use Rattle.grid.proofs.Lowest.{last, not-zero, odd-divides, place-below, lowest-rest}
+use Rattle.grid.proofs.Lowest.{last, not-zero, power-divides, odd-divides, place-below, lowest-rest}
 
 -- ---- a float that is a / c is on the grid where c divides 64 a
 same-zero : (m n : ℕ) → (m ≡ 0 → n ≡ 0) → (n ≡ 0 → m ≡ 0) → eqb m 0 ≡ eqb n 0
@@ -154,18 +154,12 @@ unfolding inFloat
 power-in k h = le→leb (2 ^ k) 16777216 (pow-mono {i = k} {j = 24} (le-of-lt h))
 
 -- ---- from 131,072 px up every finite float is on the grid
-divides : (m k : ℕ) → k ≤ 6 → m * 64 % 2 ^ k ≡ 0
-divides m k h =
-    ap (λ (n : ℕ). m * n % 2 ^ k) (sym (ap (λ (n : ℕ). 2 ^ n) (add-comm (6 - k) k ∙ add-sub-of-le h)) ∙ pow-add 2 (6 - k) k)
-    ∙ ap (λ (n : ℕ). n % 2 ^ k) (sym (mul-assoc m (2 ^ (6 - k)) (2 ^ k)))
-    ∙ mul-mod-left (m * 2 ^ (6 - k)) (2 ^ k)
-
 large : (m : ℕ) (e : ℤ) → m < 2 ^ 24 → 2 ^ 17 * down e ≤ m * up e → m * up e * 64 % down e ≡ 0
 large m (pos k) h l = mod-one (m * 2 ^ k * 64)
 large m (negsuc k) h l =
     let a : 2 ^ (17 + suc k) < 2 ^ 24 = lt-of-le-of-lt (le-trans (le-of-eq (pow-add 2 17 (suc k))) (le-trans l (le-of-eq (mul-one m)))) h in
     let b : 17 + suc k < 24 = lt-of-not-le (λ (g : 24 ≤ 17 + suc k). not-le-of-lt a (pow-mono g)) in
-    ap (λ (n : ℕ). n * 64 % 2 ^ suc k) (mul-one m) ∙ divides m (suc k) (omega (arith, b))
+    ap (λ (n : ℕ). n * 64 % 2 ^ suc k) (mul-one m) ∙ power-divides m 6 (suc k) (omega (arith, b))
 
 over : (m : ℕ) (e : ℤ) → lt (fin false m e) (two^ 17) ≡ false → 2 ^ 17 * down e ≤ m * up e
 unfolding lt

@@ -70,6 +70,13 @@ lowest-and (suc w) q c p r e =
 pub not-zero : (n : ℕ) → 0 < n → eqb n 0 ≡ false
 not-zero n h = ne-eqb n 0 (λ e. absurd (omega (arith, e)))
 
+pub power-divides : (n k p : ℕ) → p ≤ k → n * 2 ^ k % 2 ^ p ≡ 0
+power-divides n k p h =
+    let a : k ≡ k - p + p = omega (arith, h) in
+    ap (λ (x : ℕ). n * x % 2 ^ p) (ap (λ (i : ℕ). 2 ^ i) a ∙ pow-add 2 (k - p) p)
+    ∙ ap (λ (x : ℕ). x % 2 ^ p) (sym (mul-assoc n (2 ^ (k - p)) (2 ^ p)))
+    ∙ mul-mod-left (n * 2 ^ (k - p)) (2 ^ p)
+
 -- n * 2 ^ k below place w is n below place w - k, moved up k places
 times-mod : (n k w : ℕ) → k ≤ w → n * 2 ^ k % 2 ^ w ≡ n % 2 ^ (w - k) * 2 ^ k
 times-mod n k w h =
@@ -94,12 +101,7 @@ odd-divides m k p = go (ltb k p) refl
         let n = (m * 2 + 1) % 2 ^ (p - k) in
         let o : 0 < n = omega (arith, odd-rest m k p h) in
         ap (λ (x : ℕ). eqb x 0) (times-mod (m * 2 + 1) k p (le-of-lt h)) ∙ not-zero (n * 2 ^ k) (mul-pos o (pow-pos k)) ∙ sym (lt-leb p k h)
-    go false e =
-        let h = ltb-false k p e in
-        let a : k ≡ k - p + p = omega (arith, h) in
-        let n = m * 2 + 1 in
-        ap (λ (x : ℕ). eqb x 0) (ap (λ (x : ℕ). n * x % 2 ^ p) (ap (λ (i : ℕ). 2 ^ i) a ∙ pow-add 2 (k - p) p) ∙ ap (λ (x : ℕ). x % 2 ^ p) (sym (mul-assoc n (2 ^ (k - p)) (2 ^ p))) ∙ mul-mod-left (n * 2 ^ (k - p)) (2 ^ p))
-        ∙ sym (le-leb p k h)
+    go false e = let h = ltb-false k p e in ap (λ (x : ℕ). eqb x 0) (power-divides (m * 2 + 1) k p h) ∙ sym (le-leb p k h)
 
 pub place-below : {q r : ℕ} (w : ℕ) (l : Lowest q r) → 0 < q % 2 ^ w → l .place < w
 place-below {q} {r} w l h =
