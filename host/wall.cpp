@@ -1,5 +1,5 @@
-// The wall: a truck panel and a road panel of gauges, laid out driving and then parked. Parked, the truck's slip is 0 divided by 0, and a
-// careless measure makes a NaN width of it. That panel is refused and keeps its last good frame; the road panel is laid out as ever.
+// The wall: a truck panel and a road panel of gauges, and a low strip of lamp icons, laid out driving and then parked. Parked, the truck's slip is 0
+// divided by 0, and a careless measure makes a NaN width of it. That panel is refused and keeps its last good frame; the others are laid out as ever.
 // wall GAUGES FOLDER: reads the gauges, prints both frames, and draws each into FOLDER as wall-driving.svg and wall-parked.svg.
 #include <cmath>
 #include <cstdio>
@@ -58,9 +58,17 @@ std::string number_text(float x) {
 
 float on_grid(float px) { return std::round(px * 64.0f) / 64.0f; }
 
+// An icon has auto margins above and below.
+fratolivem::item icon() {
+    fratolivem::item it{40, 40};
+    it.auto_cross_start = it.auto_cross_end = 1;
+    return it;
+}
+
 // The host's measuring. A bar is as long as its value, so what is wrong with the value is wrong with the width: nothing here looks.
 fratolivem::item measure(const gauge &g, float value) {
     if (g.kind == "dial") return {104, 104};
+    if (g.kind == "icon") return icon();
     const bool is_bar = g.kind == "bar", is_lamp = g.kind == "lamp";
     const float characters = float(g.label.size() + (is_lamp ? 0 : number_text(value).size()));
     fratolivem::item it{on_grid(is_bar ? 96 + 64 * value : 24 + 7.25f * characters), 40};
@@ -79,10 +87,16 @@ fratolivem::container panel_container() {
     return c.across({}, 8, 120);
 }
 
+// The strip is one line, and lower than its icons: their auto margins leave them at its upper edge, so that they overflow below alone.
+fratolivem::container strip_container() {
+    fratolivem::container c{960, 8, fratolivem::space::max_content()};
+    return c.across(24, 0);
+}
+
 void lay(wall_panel &p, int f) {
     std::vector<fratolivem::item> items;
     for (const gauge &g : p.gauges) items.push_back(measure(g, g.value[f]));
-    const auto answer = p.panel.lay(panel_container(), items);
+    const auto answer = p.panel.lay(p.name == "strip" ? strip_container() : panel_container(), items);
     p.note.clear();
     if (answer) {
         p.shown.clear();
@@ -94,10 +108,21 @@ void lay(wall_panel &p, int f) {
     p.note += "; its last good frame stays";
 }
 
+// The gauges that stand out of their panel, and how far.
+void print_overflow(const wall_panel &p) {
+    const float height = p.panel.last().inner_cross;
+    std::size_t i = 0;
+    for (const fratolivem::box &b : fratolivem::boxes(p.panel.last())) {
+        const float end = b.cross + b.cross_size;
+        const char *label = p.gauges[i++].label.c_str();
+        if (b.cross < 0 || end > height) std::printf("    %s overflows: from %g to %g px of %g\n", label, double(b.cross), double(end), double(height));
+    }
+}
+
 void print(const wall_panel &p) {
     const fratolivem::frame &f = p.panel.last();
-    std::printf("  %s: %zu gauges in %zu lines, %g px high%s%s\n", p.name.c_str(), f.items.size(), f.lines.size(), double(f.inner_cross),
-                p.note.empty() ? "" : "\n    ", p.note.c_str());
+    std::printf("  %s: %zu gauges in %zu line%s, %g px high%s%s\n", p.name.c_str(), f.items.size(), f.lines.size(), f.lines.size() == 1 ? "" : "s",
+                double(f.inner_cross), p.note.empty() ? "" : "\n    ", p.note.c_str());
     std::size_t i = 0;
     for (const auto &line : f.lines) {
         std::printf("   ");
@@ -105,6 +130,7 @@ void print(const wall_panel &p) {
             std::printf(" %s %.1f", p.gauges[i].label.c_str(), double(f.items[i].main_size));
         std::printf("  (%.1f px free before flexing, %u round%s of it)\n", line.free / 64.0, line.rounds, line.rounds == 1 ? "" : "s");
     }
+    print_overflow(p);
 }
 
 void draw_gauge(std::ofstream &svg, const gauge &g, float value, const fratolivem::box &b, float x, float y) {
@@ -116,7 +142,7 @@ void draw_gauge(std::ofstream &svg, const gauge &g, float value, const fratolive
             << "' height='6' rx='3' fill='#4fb3ff'/>\n";
     if (g.kind == "dial")
         svg << "<circle cx='" << middle << "' cy='" << top + 60 << "' r='32' fill='none' stroke='#4fb3ff' stroke-width='4'/>\n";
-    if (g.kind == "lamp")
+    if (g.kind == "lamp" || g.kind == "icon")
         svg << "<circle cx='" << middle << "' cy='" << top + 30 << "' r='5' fill='" << (value > 0 ? "#ffb347" : "#3c5066") << "'/>\n";
     svg << "<text x='" << middle << "' y='" << top + 17 << "'>" << g.label << "</text>\n";
     if (g.kind == "dial") svg << "<text x='" << middle << "' y='" << top + 65 << "'>" << number_text(value) << "</text>\n";
@@ -135,6 +161,7 @@ bool draw(const std::vector<wall_panel> &wall, const std::string &path) {
         svg << "<text x='" << pad << "' y='" << y + 18 << "' font-size='16' text-anchor='start'>" << p.name << "</text>\n<text x='" << width - pad
             << "' y='" << y + 18 << "' text-anchor='end' fill='#ff6b6b'>" << p.note << "</text>\n";
         y += head;
+        svg << "<rect x='" << pad << "' y='" << y << "' width='" << width - 2 * pad << "' height='" << p.panel.last().inner_cross << "' fill='#141c25'/>\n";
         const auto boxes = fratolivem::boxes(p.panel.last());
         for (std::size_t i = 0; i < boxes.size(); i++) draw_gauge(svg, p.gauges[i], p.shown[i], boxes[i], pad, y);
         y += p.panel.last().inner_cross + pad;

@@ -186,7 +186,7 @@ void print_smallest() {
             std::printf("smallest of %s: none met\n", ways::way_names[way]);
             continue;
         }
-        std::printf("smallest of %s (as %s): %s\n  document 01: %s\n  the Rust:    %s\n", ways::way_names[way], ways::names_of(s.set).c_str(),
+        std::printf("smallest of %s (as %s): %s\n  here:     %s\n  the Rust: %s\n", ways::way_names[way], ways::names_of(s.set).c_str(),
                     text_of(s.c).c_str(), text_of(ours::answer(s.c).answer).c_str(), text_of(theirs::answer(s.c)).c_str());
     }
 }
@@ -254,6 +254,11 @@ constexpr const char *fixed_cases[] = {
     "flex inner=50 ; base=100 edges=80 shrink=1",
     "flex inner=100 ; base=10 edges=20 grow=1 ; base=10 grow=1",
     "across wrap=1 ; cross-edges=30 self=10 auto-size=1 : 20",
+    "across ; measured=40 auto-cross-start=1 auto-cross-end=1 : 24",
+    "across ; measured=40 auto-cross-start=1 : 24",
+    "across ; measured=40 cross-end=6 auto-cross-start=1 : 24",
+    "across ; measured=40 cross-start=5 auto-cross-end=1 : 24",
+    "pass inner=100 cross=24 has-cross=1 ; base=40 measured=40 auto-cross-start=1 auto-cross-end=1",
     "main justify=4 ; : 1.40129846e-45",
     "lines wrap=1 : -1",
     // The order of f32 operations shows.
@@ -304,7 +309,7 @@ void write_case(const Case &c) {
     const ours::Told us = ours::answer(c);
     const Answer rust = theirs::answer(c);
     const uint32_t set = same(us.answer, rust) ? 0 : ways::explanation(c, rust);
-    std::printf("%s => %s%s%s\n", text_of(c).c_str(), text_of(rust).c_str(), set ? " # " : "", set ? ways::names_of(set).c_str() : "");
+    std::printf("%s\n", ways::sample_line(c, rust, set).c_str());
 }
 
 // The fixed ones; then out of `cases` random ones of each stage every way that is met, and as many others as are asked for.

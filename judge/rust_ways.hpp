@@ -1,4 +1,4 @@
-// Document 01's rules with each way in which the Rust differs behind a switch of its own. With no switch on this is the document's rule once
+// The documents' rules with each way in which the Rust differs behind a switch of its own. With no switch on this is the documents' rule once
 // more; with all of them it must be the Rust, bit for bit, or a difference is not explained. No text of the Rust is in it.
 #ifndef RUST_WAYS_HPP
 #define RUST_WAYS_HPP
@@ -22,9 +22,10 @@ enum Way : uint32_t {
     d8 = 1 << 8,  // a stretched cross size is not raised to padding plus border
     d9 = 1 << 9,  // -0.0 is kept
     d17 = 1 << 10, // an inner cross size worked out of lines is at least 0, and stretch fills it to 0 where neither a size nor a minimum is given
+    d18 = 1 << 11, // cross auto margins share negative free space too
 };
-constexpr int way_count = 11;
-constexpr const char *way_names[way_count] = {"D1", "D2", "D3", "D4", "D5", "D6", "D6'", "D7", "D8", "D9", "D17"};
+constexpr int way_count = 12;
+constexpr const char *way_names[way_count] = {"D1", "D2", "D3", "D4", "D5", "D6", "D6'", "D7", "D8", "D9", "D17", "D18"};
 constexpr uint32_t all_ways = (1u << way_count) - 1;
 
 inline std::string names_of(uint32_t ways) {
@@ -32,6 +33,11 @@ inline std::string names_of(uint32_t ways) {
     for (int i = 0; i < way_count; i++)
         if (ways >> i & 1) all += (all.empty() ? "" : "+") + std::string(way_names[i]);
     return all.empty() ? "none" : all;
+}
+
+// A line of the sample: a case, the Rust's answer to it, and the ways that it shows.
+inline std::string sample_line(const Case &c, const Answer &rust, uint32_t set) {
+    return text_of(c) + " => " + text_of(rust) + (set ? " # " + names_of(set) : "");
 }
 
 using model::cleaned;
@@ -101,10 +107,13 @@ inline std::vector<float> flex(uint32_t ways, float inner, float gap, const mode
 }
 
 inline model::PlacedItem place_item(uint32_t ways, float line, bool reversed, const model::CrossItem &it) {
-    if (!(ways & d8) || !it.stretched()) return model::place_item(line, reversed, it);
-    model::CrossItem bare = it;
-    bare.edges = 0.0f;
-    return model::place_item(line, reversed, bare);
+    model::CrossItem taken = it;
+    if (ways & d8 && it.stretched()) taken.edges = 0.0f;
+    model::PlacedItem p = model::place_item(line, reversed, taken);
+    if (!(ways & d18) || !it.has_auto()) return p;
+    const float share = it.share(cleaned(line) - (p.size + it.margins()));
+    p.start = cleaned(it.auto_start ? share : it.start), p.end = cleaned(it.auto_end ? share : it.end);
+    return p;
 }
 
 inline model::MainLists main_lists(const std::vector<float> &targets, const model::Item *items, std::size_t n) {
@@ -235,8 +244,8 @@ inline uint32_t shown_by(Stage stage) {
     switch (stage) {
     case Stage::flex: return flexing | d9;
     case Stage::lines: return d17 | d9;
-    case Stage::across: return d8 | d9;
-    case Stage::pass: return flexing | d8 | d9;
+    case Stage::across: return d8 | d18 | d9;
+    case Stage::pass: return flexing | d8 | d18 | d9;
     default: return d9;
     }
 }

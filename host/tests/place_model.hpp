@@ -155,7 +155,10 @@ struct CrossItem {
 
     float margins() const { return margins_of(start, auto_start, end, auto_end); }
     float clamped(float x) const { return clamp(x, has_maximum, cleaned(maximum), cleaned(minimum), cleaned(edges)); }
-    bool stretched() const { return align_self == 10 && auto_size && !auto_start && !auto_end; }
+    bool has_auto() const { return auto_start || auto_end; }
+    bool stretched() const { return align_self == 10 && auto_size && !has_auto(); }
+    // what an auto margin gets where they are shared out
+    float share(float free) const { return auto_start && auto_end ? free / 2.0f : free; }
 };
 
 // The lists of a call; that for a line's size takes all but the last two.
@@ -271,9 +274,10 @@ inline PlacedItem place_item(float line, bool reversed, const CrossItem &it) {
     const float margins = it.margins();
     const float size = it.clamped(it.stretched() ? line - margins : cleaned(it.measured));
     const float free = line - (size + margins);
-    const float share = it.auto_start && it.auto_end ? free / 2.0f : free;
-    const float offset = it.auto_start || it.auto_end ? 0.0f : self_offset(free, reversed, alignment_of(it.align_self));
-    return {cleaned(size), cleaned(it.auto_start ? share : it.start), cleaned(it.auto_end ? share : it.end), cleaned(offset)};
+    if (!it.has_auto()) return {cleaned(size), cleaned(it.start), cleaned(it.end), cleaned(self_offset(free, reversed, alignment_of(it.align_self)))};
+    if (free < 0.0f) return {cleaned(size), cleaned(it.auto_start ? 0.0f : it.start), cleaned((it.auto_end ? 0.0f : it.end) + free), 0.0f};
+    const float share = it.share(free);
+    return {cleaned(size), cleaned(it.auto_start ? share : it.start), cleaned(it.auto_end ? share : it.end), 0.0f};
 }
 
 // The line's size is a worked-out number of the container; `code` is what says whether wrapping is reversed, and `most` its largest value.

@@ -44,6 +44,33 @@ void examples() {
     try_lines(p15);
 }
 
+// Document 02, Three: an item of 40 with auto margins on a line too short for it, on one that is long enough, and on one just as long. Its margins
+// as given (the 3 beside an auto one does not count), and as used.
+const struct {
+    float line;
+    uint32_t auto_start;
+    float start;
+    uint32_t auto_end;
+    float end, used_start, used_end;
+} auto_margins[] = {
+    {24, 1, 3, 1, 3, 0, -16}, {24, 1, 3, 0, 0, 0, -16}, {24, 1, 3, 0, 6, 0, -16}, {24, 0, 5, 1, 3, 5, -21},
+    {24, 1, 3, 0, -6, 0, -16}, {60, 1, 3, 1, 3, 10, 10}, {40, 1, 3, 1, 3, 0, 0},
+};
+
+void margins_across() {
+    for (const auto &m : auto_margins)
+        for (uint32_t reversed : {0u, 1u})
+            for (uint32_t align = 0; align <= 10; align++) {
+                CrossItem it;
+                it.measured = 40, it.start = m.start, it.end = m.end, it.auto_start = m.auto_start, it.auto_end = m.auto_end;
+                it.align_self = align, it.auto_size = 1;
+                const AcrossCall c{m.line, reversed, across({it})};
+                const model::PlacedItem p = model::place_item(m.line, reversed, it);
+                expect(p.size == 40 && p.start == m.used_start && p.end == m.used_end && p.offset == 0, "the model differs from Three", c);
+                try_across(c);
+            }
+}
+
 // ---- every keyword, code and flag, one past the last among them, with a handful of sizes
 
 void keywords_along() {
@@ -418,6 +445,7 @@ int main(int argc, char **argv) {
     std::fflush(stdout);
     dirt.seed(seed);
     examples();
+    margins_across();
     keywords_along();
     keywords_of_lines();
     flags_of_a_line();

@@ -1,24 +1,14 @@
--- What an auto margin takes, by how many of the two are auto, and in numbers, where the definition computes. Assumes nothing.
-use mathlib.Core.Path.{_≡_, refl, sym, ap}
+-- What the auto margins of an item across its line take, by which of them are auto and by the sign of the free space. Assumes nothing.
+use mathlib.Core.Path.{_≡_, refl, sym, ap, _∙_}
 use mathlib.Core.Bool.{Bool, true, false, cond, _&&_}
-use lib.Ieee.{Float, ofInt, ofBits, sub, div}
-use Rattle.grid.specs.Floats.{_⊖_, _⊘_, nought, two, counted}
+use lib.Ieee.{Float, lt}
+use Rattle.grid.specs.Floats.{_⊕_, _⊘_, nought, two}
 use Rattle.linesize.specs.declared.cross_size.CrossItem.{CrossItem}
-use Rattle.crossaxis.specs.CrossAxis.{autoMargin}
+use Rattle.crossaxis.specs.CrossAxis.{autoMargin, startMargin, endMargin}
 
-item : Bool → Bool → CrossItem
-item a b = record { measured = nought; minimum = nought; maximum = nought; capped = false; edges = nought; start = nought; end = nought; «auto_start» = a; «auto_end» = b }
-
--- one auto margin of either side takes all of 10, and of 10 too little; two take 5 each
-record Shares : Type 0 where
-  at-start : autoMargin (counted 10) (item true false) ≡ counted 10
-  at-end : autoMargin (counted 10) (item false true) ≡ counted 10
-  of-two : autoMargin (counted 10) (item true true) ≡ counted 5
-  overfull : autoMargin (nought ⊖ counted 10) (item true true) ≡ nought ⊖ counted 5
-
-shares : Shares
-unfolding autoMargin item ofInt ofBits sub div
-shares = record { at-start = refl; at-end = refl; of-two = refl; overfull = refl }
+and-false : (a : Bool) → (a && false) ≡ false
+and-false true = refl
+and-false false = refl
 
 module _ (free : Float) (it : CrossItem) where
   pub halved : (it .«auto_start» && it .«auto_end») ≡ true → free ⊘ two ≡ autoMargin free it
@@ -28,3 +18,21 @@ module _ (free : Float) (it : CrossItem) where
   pub whole : (it .«auto_start» && it .«auto_end») ≡ false → free ≡ autoMargin free it
   unfolding autoMargin
   whole p = sym (ap (λ (b : Bool). cond b (free ⊘ two) free) p)
+
+  -- With free space of 0 or more an auto margin takes its share, and a given one stays ..
+  pub start-long : lt free nought ≡ false → startMargin free it ≡ cond (it .«auto_start») (autoMargin free it) (it .start)
+  unfolding startMargin
+  start-long q = ap (λ (b : Bool). cond (it .«auto_start») (cond b nought (autoMargin free it)) (it .start)) q
+
+  pub end-long : lt free nought ≡ false → endMargin free it ≡ cond (it .«auto_end») (autoMargin free it) (it .end)
+  unfolding endMargin
+  end-long q =
+      ap (λ (b : Bool). cond (it .«auto_end») (cond b free (autoMargin free it)) (cond (it .«auto_start» && b) (it .end ⊕ free) (it .end))) q
+      ∙ ap (λ (b : Bool). cond (it .«auto_end») (autoMargin free it) (cond b (it .end ⊕ free) (it .end))) (and-false (it .«auto_start»))
+
+  -- .. so that an auto one is its share.
+  pub start-shares : it .«auto_start» ≡ true → lt free nought ≡ false → autoMargin free it ≡ startMargin free it
+  start-shares p q = sym (start-long q ∙ ap (λ (b : Bool). cond b (autoMargin free it) (it .start)) p)
+
+  pub end-shares : it .«auto_end» ≡ true → lt free nought ≡ false → autoMargin free it ≡ endMargin free it
+  end-shares p q = sym (end-long q ∙ ap (λ (b : Bool). cond b (autoMargin free it) (it .end)) p)

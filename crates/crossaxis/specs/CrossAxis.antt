@@ -1,10 +1,10 @@
--- Document 01, "Cross axis", second half: the items of one line across it. Assumes nothing.
+-- Document 01, "Cross axis", second half: the items of one line across it; auto margins by CSS-FLEX 9.6, as document 02, Three, asks. Assumes nothing.
 use mathlib.Core.Path.{_≡_}
 use mathlib.Core.Bool.{Bool, true, false, cond, not, _&&_, _||_}
 use mathlib.Core.List.{List}
 use Prim.Native.Nat.{ℕ}
 use lib.ListN.{getD}
-use lib.Ieee.{Float}
+use lib.Ieee.{Float, lt}
 use Rattle.grid.specs.Grid.{cleaned}
 use Rattle.align.specs.declared.SelfAlignment.{SelfAlignment}
 use Rattle.align.specs.declared.SelfAlignment.the-variants.{Unsafe, Safe, Stretch}
@@ -36,15 +36,18 @@ usedSize line it stretched = cond stretched (clamp it (line ⊖ margins it)) (hy
 unfoldable pub freeSpace : Float → CrossItem → Float → Float
 freeSpace line it size = line ⊖ (size ⊕ margins it)
 
--- "Auto margins take all free cross space .., halved between two, negative free included"
+-- "If its outer cross size .. is less than the cross size of its flex line, distribute the difference in those sizes equally to the auto margins. ..
 unfoldable pub autoMargin : Float → CrossItem → Float
 autoMargin free it = cond (it .«auto_start» && it .«auto_end») (free ⊘ two) free
 
+-- .. Otherwise, if the block-start or inline-start margin .. is auto, set it to zero. ..
 unfoldable pub startMargin : Float → CrossItem → Float
-startMargin free it = cond (it .«auto_start») (autoMargin free it) (it .start)
+startMargin free it = cond (it .«auto_start») (cond (lt free nought) nought (autoMargin free it)) (it .start)
 
+-- .. Set the opposite margin so that the outer cross size of the item equals the cross size of its flex line": "the negative rest is added to the
+-- opposite margin. Where only the end margin is auto it takes the negative rest too." Of 0 either rule gives 0
 unfoldable pub endMargin : Float → CrossItem → Float
-endMargin free it = cond (it .«auto_end») (autoMargin free it) (it .end)
+endMargin free it = cond (it .«auto_end») (cond (lt free nought) free (autoMargin free it)) (cond (it .«auto_start» && lt free nought) (it .end ⊕ free) (it .end))
 
 -- "(offset 0) .. Else the item is placed .. by its alignment"
 unfoldable pub crossOffset : Float → Bool → CrossItem → SelfAlignment → Float

@@ -58,7 +58,7 @@ fn are_both(a: bool, b: bool) -> bool
     if a { b } else { false }
 }
 
-// What an auto margin takes: all of the free space, or half of it beside another. Negative free space is shared alike.
+// What an auto margin takes of free space: all, or half of it beside another.
 fn auto_margin(free: f32, it: CrossItem) -> f32
     ensures { λ r. ⌜ r ≡ autoMargin free it ⌝ }
 {
@@ -68,20 +68,31 @@ fn auto_margin(free: f32, it: CrossItem) -> f32
     free
 }
 
+// An item too large for its line overflows it at the end alone: an auto start margin is then 0 ..
 fn start_margin(free: f32, it: CrossItem) -> f32
     ensures { λ r. ⌜ r ≡ startMargin free it ⌝ }
 {
     if it.auto_start {
+        if free < 0.0 {
+            return 0.0;
+        }
         return auto_margin(free, it);
     }
     it.start
 }
 
+// .. and what is missing is taken off the end margin, auto or given.
 fn end_margin(free: f32, it: CrossItem) -> f32
     ensures { λ r. ⌜ r ≡ endMargin free it ⌝ }
 {
     if it.auto_end {
+        if free < 0.0 {
+            return free;
+        }
         return auto_margin(free, it);
+    }
+    if are_both(it.auto_start, free < 0.0) {
+        return it.end + free;
     }
     it.end
 }

@@ -1,21 +1,31 @@
--- `crossaxis::cross_axis::end_margin` meets its contract: the code's test is the definition's. Assumes nothing.
-use mathlib.Core.Path.{sym, ap, _∙_}
-use mathlib.Core.Bool.{Bool, cond}
-use Rattle.crossaxis.specs.CrossAxis.{autoMargin, endMargin}
+-- `crossaxis::cross_axis::end_margin` meets its contract: the code's tests are the definition's. Assumes nothing.
+use mathlib.Core.Path.{sym, _∙_}
+use Rattle.crossaxis.specs.CrossAxis.{endMargin}
+use Rattle.crossaxis.proofs.AutoMargins.{end-shares}
 use borrow.Author.Needs.{needs}
 use Rattle.crossaxis.proofs.cross_axis.end_margin.Statement.{statement}
 use Rattle.crossaxis.proofs.cross_axis.end_margin.Tie as tie
 
+returns : tie.Need-returns
+unfolding endMargin
+returns c = rw (c .before .if1 .taken, c .if2 .taken)
+
 auto-margin-requires : tie.Need-auto-margin-requires
 auto-margin-requires c κs = search needs
 
-returns : tie.Need-returns
-unfolding endMargin
-returns c = c .auto-margin .ensures ∙ ap (λ (b : Bool). cond b (autoMargin (c .before .before .args .free) (c .before .before .args .it)) (c .before .before .args .it .end)) (sym (c .before .if1 .taken))
-
 returns-2 : tie.Need-returns-2
+returns-2 c = let s = c .before .before .before .args in c .auto-margin .ensures ∙ end-shares (s .free) (s .it) (c .before .before .if1 .taken) (c .before .if2 .left)
+
+are-both-requires : tie.Need-are-both-requires
+are-both-requires c κs = search needs
+
+returns-3 : tie.Need-returns-3
 unfolding endMargin
-returns-2 c = rw (c .if1 .left)
+returns-3 c = rw (c .before .before .before .if1 .left, sym (c .before .before .are-both .ensures) ∙ c .before .if3 .taken)
+
+returns-4 : tie.Need-returns-4
+unfolding endMargin
+returns-4 c = rw (c .before .before .if1 .left, sym (c .before .are-both .ensures) ∙ c .if3 .left)
 
 pub end-margin-spec : {M : Type 1} → statement M
-end-margin-spec = tie.close (tie.spec auto-margin-requires returns returns-2)
+end-margin-spec = tie.close (tie.spec returns auto-margin-requires returns-2 are-both-requires returns-3 returns-4)

@@ -1,21 +1,24 @@
--- `crossaxis::cross_axis::start_margin` meets its contract: the code's test is the definition's. Assumes nothing.
-use mathlib.Core.Path.{sym, ap, _∙_}
-use mathlib.Core.Bool.{Bool, cond}
-use Rattle.crossaxis.specs.CrossAxis.{autoMargin, startMargin}
+-- `crossaxis::cross_axis::start_margin` meets its contract: the code's tests are the definition's. Assumes nothing.
+use mathlib.Core.Path.{_∙_}
+use Rattle.crossaxis.specs.CrossAxis.{startMargin}
+use Rattle.crossaxis.proofs.AutoMargins.{start-shares}
 use borrow.Author.Needs.{needs}
 use Rattle.crossaxis.proofs.cross_axis.start_margin.Statement.{statement}
 use Rattle.crossaxis.proofs.cross_axis.start_margin.Tie as tie
 
+returns : tie.Need-returns
+unfolding startMargin
+returns c = rw (c .before .if1 .taken, c .if2 .taken)
+
 auto-margin-requires : tie.Need-auto-margin-requires
 auto-margin-requires c κs = search needs
 
-returns : tie.Need-returns
-unfolding startMargin
-returns c = c .auto-margin .ensures ∙ ap (λ (b : Bool). cond b (autoMargin (c .before .before .args .free) (c .before .before .args .it)) (c .before .before .args .it .start)) (sym (c .before .if1 .taken))
-
 returns-2 : tie.Need-returns-2
+returns-2 c = let s = c .before .before .before .args in c .auto-margin .ensures ∙ start-shares (s .free) (s .it) (c .before .before .if1 .taken) (c .before .if2 .left)
+
+returns-3 : tie.Need-returns-3
 unfolding startMargin
-returns-2 c = rw (c .if1 .left)
+returns-3 c = rw (c .if1 .left)
 
 pub start-margin-spec : {M : Type 1} → statement M
-start-margin-spec = tie.close (tie.spec auto-margin-requires returns returns-2)
+start-margin-spec = tie.close (tie.spec returns auto-margin-requires returns-2 returns-3)
