@@ -45,8 +45,10 @@ pub record Worked : Type 0 where
   pub start-given-5 : Placed 24 (given (px 5)) auto (px 5) (less 21)
   pub end-given-minus-6 : Placed 24 auto (given (less 6)) nought (less 16)
   pub long : Placed 60 auto auto (px 10) (px 10)
+  pub long-end-given-6 : Placed 60 auto (given (px 6)) (px 14) (px 6)
+  pub long-start-given-5 : Placed 60 (given (px 5)) auto (px 5) (px 15)
   pub exact : Placed 40 auto auto nought nought
 
 pub worked : Worked
 unfolding less isAuto number item placedItem usedSize isStretched clamp margins freeSpace startMargin endMargin autoMargin crossOffset cleaned ofBits ofInt add sub div lt
-worked = record { both = λ r. refl; end-given-0 = λ r. refl; end-given-6 = λ r. refl; start-given-5 = λ r. refl; end-given-minus-6 = λ r. refl; long = λ r. refl; exact = λ r. refl }
+worked = record { both = λ r. refl; end-given-0 = λ r. refl; end-given-6 = λ r. refl; start-given-5 = λ r. refl; end-given-minus-6 = λ r. refl; long = λ r. refl; long-end-given-6 = λ r. refl; long-start-given-5 = λ r. refl; exact = λ r. refl }

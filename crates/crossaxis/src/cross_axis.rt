@@ -58,7 +58,7 @@ fn are_both(a: bool, b: bool) -> bool
     if a { b } else { false }
 }
 
-// What an auto margin takes of free space: all, or half of it beside another.
+// What an auto margin takes of free space of 0 or more: all, or half of it beside another.
 fn auto_margin(free: f32, it: CrossItem) -> f32
     ensures { λ r. ⌜ r ≡ autoMargin free it ⌝ }
 {
@@ -68,7 +68,7 @@ fn auto_margin(free: f32, it: CrossItem) -> f32
     free
 }
 
-// An item too large for its line overflows it at the end alone: an auto start margin is then 0 ..
+// On a line too short for an item and its margins an auto start margin is 0 ..
 fn start_margin(free: f32, it: CrossItem) -> f32
     ensures { λ r. ⌜ r ≡ startMargin free it ⌝ }
 {
@@ -81,7 +81,7 @@ fn start_margin(free: f32, it: CrossItem) -> f32
     it.start
 }
 
-// .. and what is missing is taken off the end margin, auto or given.
+// .. and what is missing is taken off the end margin, auto or given, so that all together is as large as the line.
 fn end_margin(free: f32, it: CrossItem) -> f32
     ensures { λ r. ⌜ r ≡ endMargin free it ⌝ }
 {
