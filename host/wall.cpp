@@ -110,12 +110,13 @@ void lay(wall_panel &p, int f) {
 
 // The gauges that stand out of their panel, and how far.
 void print_overflow(const wall_panel &p) {
-    const float height = p.panel.last().inner_cross;
-    std::size_t i = 0;
-    for (const fratolivem::box &b : fratolivem::boxes(p.panel.last())) {
-        const float end = b.cross + b.cross_size;
-        const char *label = p.gauges[i++].label.c_str();
-        if (b.cross < 0 || end > height) std::printf("    %s overflows: from %g to %g px of %g\n", label, double(b.cross), double(end), double(height));
+    const fratolivem::frame &f = p.panel.last();
+    const auto boxes = fratolivem::boxes(f);
+    for (std::size_t i = 0; i < boxes.size(); i++) {
+        const float start = boxes[i].cross, end = start + boxes[i].cross_size;
+        if (start < 0 || end > f.inner_cross)
+            std::printf("    %s overflows: from %g to %g px of %g (used margins %g and %g)\n", p.gauges[i].label.c_str(), double(start), double(end),
+                        double(f.inner_cross), double(f.items[i].cross_start), double(f.items[i].cross_end));
     }
 }
 

@@ -223,10 +223,11 @@ fratolivem_sized fratolivem_place_lines(fratolivem_cross container, uint32_t ali
  *   align_self    a keyword above, of START to STRETCH
  *   auto_size     1 where the cross size is auto, so that STRETCH fills the line, else 0
  * Room: n cells each of sizes, used_start, used_end and offsets. On acceptance they hold the items' cross sizes, their margins and their
- * offsets, each from the line's start to the item's start margin. Auto margins share free space of 0 or more equally. Where the line is too short
- * for an item with an auto margin and its other margin, an auto start margin is 0, and what is missing is taken off the end margin, auto or given,
- * so that item and margins together are as large as the line. Start is the top of a row's line and the left of a column's, whether wrapping is
- * reversed or not. The answer has no lines and no rounds; it is never refusal 6. */
+ * offsets, each from the line's start to the item's start margin. An item with an auto margin is never stretched, and its offset is 0 whatever
+ * align_self says. Its auto margins share the line less its size and its other margin, where that is 0 or more, equally. Where it is negative, an
+ * auto start margin is 0, and what is missing is taken off the end margin, auto or given, so that item and margins together are as large as the line:
+ * line 24, size 40, margins auto and 6, used 0 and -16. Start is the top of a row's line and the left of a column's, whether wrapping is reversed or
+ * not. The answer has no lines and no rounds; it is never refusal 6. */
 fratolivem_answer fratolivem_place_across(float line, uint32_t reversed, const float *measured, size_t measured_len, const float *minimum,
                                           size_t minimum_len, const float *maximum, size_t maximum_len, const uint32_t *has_maximum,
                                           size_t has_maximum_len, const float *edges, size_t edges_len, const float *start,
