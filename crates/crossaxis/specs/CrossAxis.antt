@@ -47,7 +47,10 @@ startMargin free it = cond (it .«auto_start») (cond (lt free nought) nought (a
 -- .. Set the opposite margin so that the outer cross size of the item equals the cross size of its flex line": "the negative rest is added to the
 -- opposite margin. Where only the end margin is auto it takes the negative rest too." At exactly 0 both rules agree: auto margins 0, given ones as given
 unfoldable pub endMargin : Float → CrossItem → Float
-endMargin free it = cond (it .«auto_end») (cond (lt free nought) free (autoMargin free it)) (cond (it .«auto_start» && lt free nought) (it .end ⊕ free) (it .end))
+endMargin free it =
+    cond (it .«auto_end»)
+    (cond (lt free nought) free (autoMargin free it))
+    (cond (it .«auto_start» && lt free nought) (it .end ⊕ free) (it .end))
 
 -- "(offset 0) .. Else the item is placed .. by its alignment"
 unfoldable pub crossOffset : Float → Bool → CrossItem → SelfAlignment → Float
