@@ -1,14 +1,10 @@
 -- What the auto margins of an item across its line take, by which of them are auto and by the sign of the free space. Assumes nothing.
-use mathlib.Core.Path.{_≡_, refl, sym, ap, _∙_}
-use mathlib.Core.Bool.{Bool, true, false, cond, _&&_}
+use mathlib.Core.Path.{_≡_, sym, ap, _∙_}
+use mathlib.Core.Bool.{Bool, true, false, cond, _&&_, and-false}
 use lib.Ieee.{Float, lt}
 use Rattle.grid.specs.Floats.{_⊕_, _⊘_, nought, two}
 use Rattle.linesize.specs.declared.cross_size.CrossItem.{CrossItem}
 use Rattle.crossaxis.specs.CrossAxis.{autoMargin, startMargin, endMargin}
-
-and-false : (a : Bool) → (a && false) ≡ false
-and-false true = refl
-and-false false = refl
 
 module _ (free : Float) (it : CrossItem) where
   pub halved : (it .«auto_start» && it .«auto_end») ≡ true → free ⊘ two ≡ autoMargin free it

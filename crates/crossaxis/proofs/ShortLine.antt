@@ -9,9 +9,9 @@ use lib.Ieee.{Float, binary32, ofBits, lt}
 use Rattle.grid.specs.Floats.{_⊕_, nought}
 use Rattle.grid.specs.Grid.{onGrid, sixtyFourths}
 use Rattle.grid.specs.Values.{At}
-use Rattle.grid.proofs.Exact.{add-at, sub-at, abs-neg}
+use Rattle.grid.proofs.Exact.{add-at, sub-at}
 use Rattle.grid.proofs.Meaning.{at-of-grid, grid-of-at}
-use Rattle.grid.proofs.Sums.{six, abs-add}
+use Rattle.grid.proofs.Sums.{six, abs-add, abs-sub}
 use Rattle.linesize.specs.CrossSize.{orNought, margins}
 use Rattle.linesize.specs.declared.cross_size.CrossItem.{CrossItem}
 use Rattle.crossaxis.specs.CrossAxis.{hasAuto, freeSpace, autoMargin, startMargin, endMargin}
@@ -23,9 +23,6 @@ rest l w e = ap (λ (k : ℤ). l +ℤ k) (negℤ-+ℤ w e) ∙ sym (+ℤ-assoc l
 
 more : (l w e : ℤ) → e +ℤ (l -ℤ (w +ℤ e)) ≡ l -ℤ w
 more l w e = ap (λ (k : ℤ). e +ℤ k) (rest l w e) ∙ +ℤ-comm e (l -ℤ w -ℤ e) ∙ -ℤ-+ℤ-cancel (l -ℤ w) e
-
-abs-sub : (a b : ℤ) → natAbs (a -ℤ b) ≤ natAbs a + natAbs b
-abs-sub a b = omega (arith, abs-add a (negℤ b), abs-neg b)
 
 -- ---- lengths
 

@@ -36,7 +36,7 @@ usedSize line it stretched = cond stretched (clamp it (line ⊖ margins it)) (hy
 unfoldable pub freeSpace : Float → CrossItem → Float → Float
 freeSpace line it size = line ⊖ (size ⊕ margins it)
 
--- "If its outer cross size .. is less than the cross size of its flex line, distribute the difference in those sizes equally to the auto margins. ..
+-- CSS-FLEX 9.6: "If its outer cross size .. is less than the cross size of its flex line, distribute the difference in those sizes equally to the auto margins. ..
 unfoldable pub autoMargin : Float → CrossItem → Float
 autoMargin free it = cond (it .«auto_start» && it .«auto_end») (free ⊘ two) free
 
@@ -44,8 +44,8 @@ autoMargin free it = cond (it .«auto_start» && it .«auto_end») (free ⊘ two
 unfoldable pub startMargin : Float → CrossItem → Float
 startMargin free it = cond (it .«auto_start») (cond (lt free nought) nought (autoMargin free it)) (it .start)
 
--- .. Set the opposite margin so that the outer cross size of the item equals the cross size of its flex line": "the negative rest is added to the
--- opposite margin. Where only the end margin is auto it takes the negative rest too." At exactly 0 both rules agree: auto margins 0, given ones as given
+-- .. Set the opposite margin so that the outer cross size of the item equals the cross size of its flex line." Document 02: "the negative rest is added
+-- to the opposite margin. Where only the end margin is auto it takes the negative rest too." At exactly 0 both agree: auto margins 0, given ones as given
 unfoldable pub endMargin : Float → CrossItem → Float
 endMargin free it =
     cond (it .«auto_end»)

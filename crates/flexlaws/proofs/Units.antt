@@ -16,9 +16,9 @@ use lib.IntN.{ℤ, pos, negsuc, negℤ, natAbs, _+ℤ_, _-ℤ_, _*ℤ_, +ℤ-ass
 use lib.Ieee.{Float, nan, inf, fin, binary32, mul, lt, ofInt, ofBits}
 use Rattle.grid.specs.Grid.{sixtyFourths}
 use Rattle.grid.specs.Values.{At, Length}
-use Rattle.grid.proofs.Exact.{abs-neg, add-at, mul-at}
+use Rattle.grid.proofs.Exact.{add-at, mul-at}
 use Rattle.grid.proofs.Meaning.{at-of-grid, grid-of-at, none-at}
-use Rattle.grid.proofs.Sums.{abs-add}
+use Rattle.grid.proofs.Sums.{abs-add, abs-sub}
 use Rattle.grid.proofs.Convert.{ofInt-at, back32}
 use Rattle.flexing.specs.declared.Item.{Item}
 use Rattle.grid.specs.Floats.{gaps, raised, lowered, nought, _⊕_}
@@ -163,11 +163,8 @@ mag-small : (z : ℤ) → natAbs z ≤ 33554432 → mag z < 2 ^ 31
 mag-small (pos n) h = lt-of-le-of-lt h (lit< tt)
 mag-small (negsuc n) h = lt-of-lt-of-le h (lit≤ tt)
 
-abs-sub : (a b : ℤ) → natAbs a ≤ 16777216 → natAbs b ≤ 16777216 → natAbs (a -ℤ b) ≤ 33554432
-abs-sub a b p q = le-trans {m = natAbs a + natAbs (negℤ b)} (abs-add a (negℤ b)) (sum (natAbs a) (natAbs (negℤ b)) p (le-trans {m = natAbs b} (le-of-eq (abs-neg b)) q))
-  where
-    sum : (a b : ℕ) → a ≤ 16777216 → b ≤ 16777216 → a + b ≤ 33554432
-    sum a b p q = omega arith
+apart : (a b : ℤ) → natAbs a ≤ 16777216 → natAbs b ≤ 16777216 → natAbs (a -ℤ b) ≤ 33554432
+apart a b p q = omega (arith, abs-sub a b)
 
 abbrev pub bits : ℤ → ℤ
 bits z = toZ w32 (ofZ w32 z)
@@ -175,12 +172,12 @@ bits z = toZ w32 (ofZ w32 z)
 pub subtracted : (a b x y : ℤ) → a ≡ x → b ≡ y → natAbs x ≤ 16777216 → natAbs y ≤ 16777216 → SFits w32 (bits a -ℤ bits b) × (bits (bits a -ℤ bits b) ≡ x -ℤ y)
 subtracted a b x y ea eb p q =
     let e : bits a -ℤ bits b ≡ x -ℤ y = ap₂ (λ (m n : ℤ). m -ℤ n) (ap bits ea ∙ back32 x p) (ap bits eb ∙ back32 y q) in
-    let s : SFits w32 (x -ℤ y) = record { sfits = mag-small (x -ℤ y) (abs-sub x y p q) } in
+    let s : SFits w32 (x -ℤ y) = record { sfits = mag-small (x -ℤ y) (apart x y p q) } in
     (subst (λ (z : ℤ). SFits w32 z) (sym e) s, ap bits e ∙ toZ-ofZ w32 (x -ℤ y) s)
 
 -- the free space of an accepted line is kept by an i32
 pub free-bits : (inner gap : Float) (items : List Item) → Accepted inner gap items → (z : ℤ) → z ≡ freeBefore inner gap items → bits z ≡ z
-free-bits inner gap items a z e = toZ-ofZ w32 z (record { sfits = mag-small z (subst (λ (y : ℤ). natAbs y ≤ 33554432) (sym e) (abs-sub (sixtyFourths inner) (usedUnits gap items) (a .inner-is .small) (used-small gap items (a .within)))) })
+free-bits inner gap items a z e = toZ-ofZ w32 z (record { sfits = mag-small z (subst (λ (y : ℤ). natAbs y ≤ 33554432) (sym e) (apart (sixtyFourths inner) (usedUnits gap items) (a .inner-is .small) (used-small gap items (a .within)))) })
 
 -- ---- an outer size, in an i32
 
