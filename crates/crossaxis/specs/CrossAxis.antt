@@ -36,7 +36,8 @@ usedSize line it stretched = cond stretched (clamp it (line ⊖ margins it)) (hy
 unfoldable pub freeSpace : Float → CrossItem → Float → Float
 freeSpace line it size = line ⊖ (size ⊕ margins it)
 
--- CSS-FLEX 9.6: "If its outer cross size .. is less than the cross size of its flex line, distribute the difference in those sizes equally to the auto margins. ..
+-- CSS-FLEX 9.6: "If its outer cross size .. is less than the cross size of its flex line, distribute the difference in those sizes equally to the
+-- auto margins. ..
 unfoldable pub autoMargin : Float → CrossItem → Float
 autoMargin free it = cond (it .«auto_start» && it .«auto_end») (free ⊘ two) free
 
