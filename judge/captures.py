@@ -1,8 +1,14 @@
 #!/usr/bin/env python3
-"""judge/captures.py PROGRAM.. [--seed N] [--runs N]: the program against a second reading of document 01, "Records for the program".
+"""judge/captures.py [--seed N] [--runs N] [--limit-kind K] [--before PROGRAM] -- PROGRAM..: the program against a second reading of
+document 01, "Records for the program".
 
 PROGRAM.. is the program, after what runs it (an emulator) if anything. Captures are made, most of them then damaged, and what the
-program prints is compared with what the reader below says. It shares nothing with the library: whole numbers, and a plain table."""
+program prints is compared with what the reader below says. It shares nothing with the library: whole numbers, and a plain table.
+
+The tester is no writer: it goes on making limit kind 1, which document 02, Two, lets nobody write, and the reader below keeps
+min-content as document 01 has it. So each run shows that the program's own reading of such captures changes no answer.
+--limit-kind K makes random captures of that kind alone (before the damage); --before PROGRAM asks an older program too, run as
+PROGRAM.. is, and wants the same bytes of it."""
 import argparse
 import functools
 import random
@@ -128,9 +134,9 @@ def number(rng):
     return rng.choice(ODD) if rng.random() < 0.02 else f32(rng.choice([0, 0, 5, 10, 20, 30, 35, 40, -7, rng.randrange(6400) / 64]))
 
 
-def capture(rng):
+def capture(rng, limit_kind):
     n = rng.choice([0, 1, 2, 3, 4, 5, 6, 7, 8, 9, 20, 63, 64, 65, 70]) if rng.random() < 0.5 else rng.randrange(12)
-    kind = rng.choice([0, 0, 0, 1, 2])
+    kind = rng.choice([0, 0, 0, 1, 2]) if limit_kind is None else limit_kind
     gap = number(rng) if rng.random() < 0.1 else f32(rng.choice([0, 0, 10, 0.5]))
     data = struct.pack("<BBIIH", 1, kind, number(rng) if rng.random() < 0.1 else f32(rng.choice([90, 100, 40, 150, 0, -5])), gap, rng.choice([0, 1, 1, 2, 3, n & 0xFFFF, 65535]))
     for _ in range(n):
@@ -160,9 +166,17 @@ def made(kind, limit, gap, minimum, sizes, end=b"\3"):
 
 
 def fixed():
-    """What random captures seldom are: numbers that are not read, sums at their bound, input longer than one read, the paper's table."""
+    """What random captures seldom are: numbers that are not read, sums at their bound, input longer than one read, the paper's table, old captures."""
     nan, ten = 0x7FC00000, f32(10)
     yield b""
+    yield bytes.fromhex("01 01 0000c07f 00000041 0100 02 0000a040 02 0000c040 03")
+    for items in (0, 1, 2, 63, 64, 65):
+        for minimum in (0, 1, 2, 65535):
+            yield made(1, nan, ten, minimum, [ten] * items)
+            yield made(1, 0, 0, minimum, [0] * items)
+    for gap in (f32(-1), nan, f32(0.01), f32(262144)):
+        yield made(1, 0, gap, 1, [ten, ten])
+    yield made(1, 0, ten, 9, [f32(-3), f32(4)])
     for kind in (1, 2):
         for limit in (nan, 0x7F800000):
             yield made(kind, limit, 0, 1, [ten, ten])
@@ -205,22 +219,27 @@ def main():
     p.add_argument("program", nargs="+")
     p.add_argument("--seed", type=int, default=random.SystemRandom().randrange(1 << 32))
     p.add_argument("--runs", type=int, default=2000)
+    p.add_argument("--limit-kind", type=int, choices=(0, 1, 2))
+    p.add_argument("--before", metavar="PROGRAM")
     a = p.parse_args()
     rng = random.Random(a.seed)
     seen = {}
     first = list(fixed())
     for run in range(len(first) + a.runs):
-        data = first[run] if run < len(first) else damage(rng, capture(rng))
+        data = first[run] if run < len(first) else damage(rng, capture(rng, a.limit_kind))
         cuts = sorted(rng.randrange(len(data) + 1) for _ in range(rng.randrange(1, 4))) if run % 20 == 0 else []
         got = answer_of(a.program, data, cuts)
         want = expected(data)
         if got != want:
             sys.exit("seed %d, run %d, capture %s: the program says %r, the reader %r" % (a.seed, run, data.hex(), got, want))
+        if a.before and answer_of(a.program[:-1] + [a.before], data, cuts) != got:
+            sys.exit("seed %d, run %d, capture %s: the program before said something else than %r" % (a.seed, run, data.hex(), got))
         answer = want.split()[1]
         seen[answer] = seen.get(answer, 0) + 1
     if sorted(seen) != ["0", "1", "3", "4", "5", "6", "7"]:
         sys.exit("seed %d: some answer was never met: %s" % (a.seed, sorted(seen)))
-    print("captures: seed %d, %d runs, 0 differences; by answer: %s" % (a.seed, len(first) + a.runs, ", ".join("%s %d" % s for s in sorted(seen.items()))))
+    beside = ", the program before too" if a.before else ""
+    print("captures: seed %d, %d runs%s, 0 differences; by answer: %s" % (a.seed, len(first) + a.runs, beside, ", ".join("%s %d" % s for s in sorted(seen.items()))))
 
 
 main()

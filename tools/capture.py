@@ -4,15 +4,16 @@
     tools/capture.py limit 100 gap 10 min 1 / 70 / 0 / 20 > p1.capture
     tools/capture.py limit max gap 0 min 9 / 5 | build/captures-program
 
-The first part names the limit (a number, min or max), the gap and the minimum line count; each further part is an item's size.
-A float may also be given by its bits, as 0x7fc00000. `raw HEX` as a part puts these bytes in its place, to try broken records,
-and a last part `open` leaves the end record out. On an error nothing is written: in a pipe, `set -o pipefail` shows it.
+The first part names the limit (a number or max), the gap and the minimum line count; each further part is an item's size.
+Min-content is not written any more: one item a line is `limit max gap G min 65535`, and so are old captures read that hold it.
+A float may also be given by its bits, as 0x7fc00000. `raw HEX` as a part puts these bytes in its place, to try old or broken
+records, and a last part `open` leaves the end record out. On an error nothing is written: in a pipe, `set -o pipefail` shows it.
 """
 import os
 import struct
 import sys
 
-LIMIT_KINDS = {"min": 1, "max": 2}
+MAX_CONTENT = 2
 
 
 def float_bytes(text):
@@ -25,10 +26,11 @@ def head_bytes(words):
     given = dict(zip(words[::2], words[1::2]))
     if len(words) != 6 or set(given) != {"limit", "gap", "min"}:
         raise ValueError("the first part is: limit L gap G min M")
-    limit = given["limit"]
-    kind = LIMIT_KINDS.get(limit, 0)
-    body = bytes(4) if kind else float_bytes(limit)
-    return bytes([1, kind]) + body + float_bytes(given["gap"]) + struct.pack("<H", int(given["min"]))
+    limit, gap = given["limit"], given["gap"]
+    if limit == "min":
+        raise ValueError("min-content is not written any more; for one item a line write: limit max gap %s min 65535" % gap)
+    kind_and_limit = bytes([MAX_CONTENT]) + bytes(4) if limit == "max" else bytes([0]) + float_bytes(limit)
+    return bytes([1]) + kind_and_limit + float_bytes(gap) + struct.pack("<H", int(given["min"]))
 
 
 def part_bytes(words, first):

@@ -18,7 +18,7 @@ use Rattle.refusal.specs.declared.Verdict.the-variants as verdict
 use Rattle.refusal.specs.declared.Answer.{Answer}
 use Rattle.breaking.specs.Calls.{breakingVerdict}
 use Rattle.balance.specs.Calls.{Lent, hasRoom, balancedVerdict, BalancedCall}
-use Rattle.format.specs.Reading.{Reading, whole, broken, reading}
+use Rattle.format.specs.Reading.{Reading, whole, broken, reading, asWritten, asRead}
 use Rattle.feeding.specs.Machine.{Fed, withSizes, fed, started, finished}
 use Rattle.capture.specs.Answer.{verdictOf, ByVerdict, ByCount, Answered}
 use Rattle.capture.specs.Parts.{replyOf, AnsweredTo}
@@ -29,6 +29,7 @@ use Rattle.feeding.specs.declared.Captured.the-variants.{Whole}
 use Rattle.feeding.specs.declared.Captured.the-variants as captured
 use Rattle.spelling.specs.declared.Reply.{Reply}
 use Rattle.spelling.specs.declared.Reply.the-variants.{Lines}
+use Rattle.format.proofs.Meaning.{meant, reading-meant}
 use Rattle.feeding.proofs.Sound.{fed-room}
 use Rattle.feeding.proofs.Whole.{knownOf, toldBy, said}
 
@@ -76,7 +77,7 @@ breaks head sizes before after r few roomy call = go (verdictOf head sizes) refl
 -- ---- the reader
 
 module _ (before : List ℕ) (r : Reply) (after : List ℕ) where
-  transfer : (s : Captured) (room : List Float) (said : Reading) → toldBy s room ≡ knownOf said → AnsweredTo s room before r after → Answered said before r after
+  transfer : (s : Captured) (room : List Float) (said : Reading) → toldBy s room ≡ knownOf said → AnsweredTo s room before r after → Answered (meant asRead said) before r after
   transfer (Whole h n) room (broken p) e a = let z : _≡_ {A = ℕ} 0 1 = cc in absurd (omega arith)
   transfer (captured.Broken p) room (whole g xs) e a = let z : _≡_ {A = ℕ} 0 1 = cc in absurd (omega arith)
   transfer (captured.Broken p) room (broken q) e a = let z : p ≡ q = cc in subst (λ (k : ℕ). Answered (broken k) before r after) z a
@@ -91,23 +92,24 @@ module _ (before : List ℕ) (r : Reply) (after : List ℕ) where
       kept : take n room ≡ take 64 xs
       kept = cc
 
-      go : Dec (n ≤ 64) → ByCount (ltb 64 (length xs)) g xs before r after
+      go : Dec (n ≤ 64) → ByCount (ltb 64 (length xs)) (asRead g) xs before r after
       go (yes few) =
           let all : take n room ≡ xs = kept ∙ take-all 64 xs (omega (arith, many)) in
-          let b : ByVerdict (verdictOf h (take n room)) h (take n room) before r after = rw (le-ltb 64 n few) at a in
+          let b : ByVerdict (verdictOf (asRead h) (take n room)) (asRead h) (take n room) before r after = rw (le-ltb 64 n few) at a in
           rw (sym many, le-ltb 64 n few)
-          (subst (λ (l : List Float). ByVerdict (verdictOf g l) g l before r after) all
-          (subst (λ (k : Head). ByVerdict (verdictOf k (take n room)) k (take n room) before r after) heads b))
+          (subst (λ (l : List Float). ByVerdict (verdictOf (asRead g) l) (asRead g) l before r after) all
+          (subst (λ (k : Head). ByVerdict (verdictOf (asRead k) (take n room)) (asRead k) (take n room) before r after) heads b))
       go (no lots) =
-          let b : ByCount true h (take n room) before r after = rw (lt-ltb 64 n (omega arith)) at a in
+          let b : ByCount true (asRead h) (take n room) before r after = rw (lt-ltb 64 n (omega arith)) at a in
           rw (sym many, lt-ltb 64 n (omega arith)) b
 
 pub fed-full : {r : Reader} {sizes : List Float} (fd : Fed) (l : List ℕ) → length (fd .sizes) ≡ 64 → withSizes r sizes ≡ fed fd l → length sizes ≡ 64
 fed-full fd l full e = ap (λ (f : Fed). length (f .sizes)) e ∙ (fed-room l fd ∙ full)
 
 pub reads : {r : Reader} {sizes : List Float} (room : List Float) (l before : List ℕ) (reply : Reply) (after : List ℕ) → length room ≡ 64 → length l ≤ 2 ^ 63
-    → withSizes r sizes ≡ fed (withSizes started room) l → AnsweredTo (finished r) sizes before reply after → Answered (reading l) before reply after
+    → withSizes r sizes ≡ fed (withSizes started room) l → AnsweredTo (finished r) sizes before reply after → Answered (reading asRead l) before reply after
 reads {r} {sizes} room l before reply after full long e a =
-    transfer before reply after (finished r) sizes (reading l)
+    subst (λ (told : Reading). Answered told before reply after) (sym (reading-meant asRead l))
+    (transfer before reply after (finished r) sizes (reading asWritten l)
     (ap (λ (f : Fed). toldBy (finished (f .reader)) (f .sizes)) e ∙ said room l full long)
-    a
+    a)

@@ -7,6 +7,7 @@ use lib.Ieee.{Float}
 use Rattle.refusal.specs.declared.Answer.{Answer}
 use Rattle.refusal.specs.declared.Answer.the-variants.{Done}
 use Rattle.refusal.specs.declared.Answer.the-variants as answer
+use Rattle.format.specs.Reading.{asRead}
 use Rattle.feeding.specs.declared.Captured.{Captured}
 use Rattle.feeding.specs.declared.Captured.the-variants.{Whole}
 use Rattle.feeding.specs.declared.Captured.the-variants as captured
@@ -21,4 +22,4 @@ replyOf (answer.Refused why) = Refused why
 -- the answer of a finished reader, which keeps 64 sizes
 abbrev pub AnsweredTo : Captured → List Float → List ℕ → Reply → List ℕ → Type 0
 AnsweredTo (captured.Broken place) room before r after = Refuses (Broken place) before r after
-AnsweredTo (Whole head items) room before r after = ByCount (ltb 64 items) head (take items room) before r after
+AnsweredTo (Whole head items) room before r after = ByCount (ltb 64 items) (asRead head) (take items room) before r after

@@ -3,7 +3,7 @@ ghost use mathlib.Core.Path.{_≡_};
 ghost use Prim.Native.Nat.{_≤_};
 ghost use lib.ListN.{length, take};
 ghost use lib.Dec.{ltb};
-ghost use Rattle.format.specs.Reading.{reading};
+ghost use Rattle.format.specs.Reading.{reading, asRead};
 ghost use Rattle.feeding.specs.Machine.{finished};
 ghost use Rattle.capture.specs.Answer.{verdictOf, ByVerdict, ByCount, Answered};
 ghost use Rattle.capture.specs.Parts.{replyOf, AnsweredTo};
@@ -13,6 +13,7 @@ use feeding::feed;
 use feeding::finish;
 use feeding::start;
 use format::Head;
+use format::as_read;
 use refusal::Answer;
 use refusal::Refusal;
 use spelling::Reply;
@@ -64,13 +65,13 @@ pub fn answer(r: Reader, sizes: &[f32], counts: &mut [u32]) -> Reply
     let said = finish(r);
     match said {
         Captured::Broken(place) => Reply::Broken(place),
-        Captured::Whole { head, items } => answer_items(head, items, sizes, counts),
+        Captured::Whole { head, items } => answer_items(as_read(head), items, sizes, counts),
     }
 }
 
 // Reads a whole capture to its answer. Nothing is asked of the bytes.
 pub fn read(bytes: &[u8], counts: &mut [u32; 64]) -> Reply
-    ensures { λ r. ⌜ Answered (reading (now (bytes .entry))) (now (counts .entry)) r (now (counts .exit)) ⌝ }
+    ensures { λ r. ⌜ Answered (reading asRead (now (bytes .entry))) (now (counts .entry)) r (now (counts .exit)) ⌝ }
     ensures { λ r. ⌜ length (now (counts .exit)) ≡ 64 ⌝ }
 {
     let mut sizes = [0.0f32; 64];

@@ -1,4 +1,4 @@
--- Started, fed with a whole capture and finished, a reader says what `reading` says of its bytes. Assumes nothing.
+-- Started, fed with a whole capture and finished, a reader says what `reading` says of its bytes, the head as it was written. Assumes nothing.
 use mathlib.Core.Path.{_≡_, refl, sym, _∙_, ap}
 use mathlib.Core.Logic.{inl, inr}
 use mathlib.Core.List.{List, [], _∷_, append-nil}
@@ -9,7 +9,7 @@ use lib.ListN.{length, take, drop, length-take}
 use lib.Seq.{take-all}
 use lib.Ieee.{Float}
 use Rattle.format.specs.Format.{firstFront, laterFront}
-use Rattle.format.specs.Reading.{Rest, sizes, faulty, ending, items, Reading, whole, broken, reading, byHead}
+use Rattle.format.specs.Reading.{Rest, sizes, faulty, ending, items, Reading, whole, broken, byHead, reading, asWritten}
 use Rattle.feeding.specs.Machine.{Fed, withSizes, fed, started, finished, byStage, Sound, Ready}
 use Rattle.format.specs.declared.Head.{Head}
 use Rattle.feeding.specs.declared.Reader.{Reader}
@@ -38,7 +38,7 @@ toldBy (captured.Broken place) room = resume.broken place
 
 -- ---- at the start
 
-from-start : (o : Parsed) (t : Rest) → firstly o 0 0 [] t ≡ knownOf (byHead o t)
+from-start : (o : Parsed) (t : Rest) → firstly o 0 0 [] t ≡ knownOf (byHead asWritten o t)
 from-start (parsed.Head h) (sizes xs) = ap (λ (k : ℕ). resume.known h k (take 64 xs)) (zero-add (length xs))
 from-start (parsed.Head h) (faulty place) = refl
 from-start Partial t = refl
@@ -46,7 +46,7 @@ from-start Broken t = refl
 from-start (Item x) t = refl
 from-start End t = refl
 
-pub starts : (room : List Float) (l : List ℕ) → resume (withSizes started room) l ≡ knownOf (reading l)
+pub starts : (room : List Float) (l : List ℕ) → resume (withSizes started room) l ≡ knownOf (reading asWritten l)
 unfolding resume coming reading
 starts room l = from-start (firstFront l) (items 12 (drop 12 l))
 
@@ -94,7 +94,7 @@ ends fd sound full =
 -- ---- the whole way
 
 pub said : (room : List Float) (l : List ℕ) → length room ≡ 64 → length l ≤ 2 ^ 63
-    → let fd = fed (withSizes started room) l in toldBy (finished (fd .reader)) (fd .sizes) ≡ knownOf (reading l)
+    → let fd = fed (withSizes started room) l in toldBy (finished (fd .reader)) (fd .sizes) ≡ knownOf (reading asWritten l)
 said room l full long =
     let fd = withSizes started room in
     let ready : Ready started (length l + 0) = record { sound = started-sound; room = omega arith } in

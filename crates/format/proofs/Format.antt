@@ -1,5 +1,5 @@
--- The reading is sound and complete: every capture that is written of numbers is read back as these numbers, and whatever is read as a
--- capture was written so. Assumes nothing.
+-- The reading is sound and complete, whatever a head is taken to mean: every capture of readable numbers is read as these numbers, and whatever is
+-- read as a capture has them. Document 02, Two: of the numbers that a writer may produce it means what was written. Assumes nothing.
 use mathlib.Core.Path.{_≡_, refl, sym, _∙_, ap, subst}
 use mathlib.Core.List.{List, [], _∷_, _++_, map}
 use Prim.Native.Nat.{ℕ, zero, suc, _+_, _*_, _/_, _%_, _<_, _≤_, _^_}
@@ -7,9 +7,10 @@ use native.Mathlib.Nat.{mod-eq-of-lt}
 use native.Mathlib.Omega.{arith}
 use lib.ListN.{length, getD, drop}
 use lib.Ieee.{Float, binary32, ofBits}
+use Rattle.breaklimit.specs.Limit.{spaceOf}
 use Rattle.format.specs.Format.{kind, half, word, float, headOf, firstFront, laterFront}
-use Rattle.format.specs.Reading.{Rest, sizes, faulty, more, byRecord, ending, itemsOf, items, whole, under, byHead, reading}
-use Rattle.format.specs.Written.{Numbers, All, Writable, bytesOf, itemBytes, written, headSaid, sizesSaid}
+use Rattle.format.specs.Reading.{Rest, sizes, faulty, more, byRecord, ending, itemsOf, items, whole, under, byHead, reading, asWritten, bySpace, asRead}
+use Rattle.format.specs.Written.{Numbers, All, Readable, Writable, bytesOf, itemBytes, written, headSaid, sizesSaid}
 use Rattle.format.specs.declared.Head.{Head}
 use Rattle.format.specs.declared.Parsed.{Parsed}
 use Rattle.format.specs.declared.Parsed.the-variants as parsed
@@ -33,9 +34,9 @@ items-complete place (n ∷ l) fit =
     items-by place bytes
     ∙ (rw (f.later-item bytes refl (omega arith), items-complete (place + 5) l (fit .1), four n (fit .0)))
 
-pub complete : (c : Numbers) → Writable c → reading (written c) ≡ whole (headSaid c) (sizesSaid c)
+pub complete : (meaning : Head → Head) (c : Numbers) → Readable c → reading meaning (written c) ≡ whole (meaning (headSaid c)) (sizesSaid c)
 unfolding reading
-complete c fit =
+complete meaning c fit =
     rw (
       f.first-head (written c) refl (fit .kind-is) (omega arith),
       items-complete 12 (c .sizes) (fit .sizes-fit),
@@ -142,12 +143,12 @@ items-sound (suc n) place l xs b e = go (f.later-cases l) (λ ys w. items-sound 
         item-before l (five-of l m) b k t (next (t .others) (t .rest-is))
     go (f.Later.end k) next = end-alone (place + 1) l xs k (by parsed.End (f.later-end l k))
 
--- a capture of numbers that have room in their fields
-pub record Written (l : List ℕ) (h : Head) (xs : List Float) : Type 0 where
+-- the bytes of some numbers that may be so, and what these say
+pub record Written (May : Numbers → Type 0) (meaning : Head → Head) (l : List ℕ) (h : Head) (xs : List Float) : Type 0 where
   pub numbers : Numbers
-  pub writable : Writable numbers
+  pub may : May numbers
   pub as-written : l ≡ written numbers
-  pub head-said : headSaid numbers ≡ h
+  pub head-said : meaning (headSaid numbers) ≡ h
   pub sizes-said : sizesSaid numbers ≡ xs
 
 under-back : (h g : Head) (t : Rest) (xs : List Float) → under h t ≡ whole g xs → (h ≡ g) × (t ≡ sizes xs)
@@ -165,10 +166,11 @@ twelve-of (k ∷ (j ∷ l)) n = go l (five-of l (omega arith)) (omega arith)
     go : (m : List ℕ) → Five m → 10 ≤ length m → Twelve (k ∷ (j ∷ m))
     go m (five a b c d e r) z = twelve k j a b c d e r (five-of r (omega arith))
 
-head-before : (l : List ℕ) (xs : List Float) → Twelve l → All Byte l → kind l ≡ 1 → getD l 1 0 ≤ 2 → Items (drop 12 l) xs → Written l (headOf l) xs
-head-before l xs (twelve k j a b c d e m (five f' g h' p q r)) y one kinds i = record {
+head-before : (meaning : Head → Head) (l : List ℕ) (xs : List Float) → Twelve l → All Byte l → kind l ≡ 1 → getD l 1 0 ≤ 2 → Items (drop 12 l) xs
+    → Written Readable meaning l (meaning (headOf l)) xs
+head-before meaning l xs (twelve k j a b c d e m (five f' g h' p q r)) y one kinds i = record {
   numbers = record { limit-kind = j; limit = a + 256 * b + 65536 * (c + 256 * d); gap = e + 256 * f' + 65536 * (g + 256 * h'); minimum = p + 256 * q; sizes = i .bits };
-  writable = record {
+  may = record {
     kind-is = kinds;
     limit-fits = word-fits a b c d (y .1 .1 .0) (y .1 .1 .1 .0) (y .1 .1 .1 .1 .0) (y .1 .1 .1 .1 .1 .0);
     gap-fits = word-fits e f' g h' (y .1 .1 .1 .1 .1 .1 .0) (y .1 .1 .1 .1 .1 .1 .1 .0) (y .1 .1 .1 .1 .1 .1 .1 .1 .0) (y .1 .1 .1 .1 .1 .1 .1 .1 .1 .0);
@@ -190,18 +192,46 @@ head-before l xs (twelve k j a b c d e m (five f' g h' p q r)) y one kinds i = r
   sizes-said = i .said;
 }
 
-pub sound : (l : List ℕ) (h : Head) (xs : List Float) → All Byte l → reading l ≡ whole h xs → Written l h xs
+pub sound : (meaning : Head → Head) (l : List ℕ) (h : Head) (xs : List Float) → All Byte l → reading meaning l ≡ whole h xs → Written Readable meaning l h xs
 unfolding reading items
-sound l h xs b e = go (f.first-cases l)
+sound meaning l h xs b e = go (f.first-cases l)
   where
-    by : (o : Parsed) → firstFront l ≡ o → byHead o (items 12 (drop 12 l)) ≡ whole h xs
-    by o w = sym (ap (λ (u : Parsed). byHead u (items 12 (drop 12 l))) w) ∙ e
+    by : (o : Parsed) → firstFront l ≡ o → byHead meaning o (items 12 (drop 12 l)) ≡ whole h xs
+    by o w = sym (ap (λ (u : Parsed). byHead meaning u (items 12 (drop 12 l))) w) ∙ e
 
-    go : f.First l → Written l h xs
+    go : f.First l → Written Readable meaning l h xs
     go (f.First.other k) = let y = by parsed.Broken (f.first-other l k) in (let z : _≡_ {A = ℕ} 0 1 = cc in absurd (omega arith))
     go (f.First.bad k m) = let y = by parsed.Broken (f.first-bad l k m) in (let z : _≡_ {A = ℕ} 0 1 = cc in absurd (omega arith))
     go (f.First.cut k m n) = let y = by parsed.Partial (f.first-cut l k m n) in (let z : _≡_ {A = ℕ} 0 1 = cc in absurd (omega arith))
     go (f.First.whole k m n) =
-        let u = under-back (headOf l) h (items 12 (drop 12 l)) xs (by (parsed.Head (headOf l)) (f.first-head l k m n)) in
+        let u = under-back (meaning (headOf l)) h (items 12 (drop 12 l)) xs (by (parsed.Head (headOf l)) (f.first-head l k m n)) in
         let i = items-sound (length (drop 12 l)) 12 (drop 12 l) xs (drop-bytes 12 l b) (u .1) in
-        subst (λ (g : Head). Written l g xs) (u .0) (head-before l xs (twelve-of l n) b k m i)
+        subst (λ (g : Head). Written Readable meaning l g xs) (u .0) (head-before meaning l xs (twelve-of l n) b k m i)
+
+-- ---- what a writer may produce
+
+-- under any kind but 1 a head is read as it was written
+says-itself : (kind : ℕ) (limit : Float) (head : Head) → (kind ≡ 1 → ⊥) → bySpace (spaceOf kind limit) head ≡ head
+says-itself zero limit head not-min = refl
+says-itself (suc zero) limit head not-min = absurd (not-min refl)
+says-itself (suc (suc kind)) limit head not-min = refl
+
+pub written-complete : (c : Numbers) → Writable c → reading asRead (written c) ≡ whole (headSaid c) (sizesSaid c)
+written-complete c w =
+    complete asRead c (w .readable)
+    ∙ ap (λ (h : Head). whole h (sizesSaid c)) (says-itself (c .limit-kind) (ofBits binary32 (c .limit)) (headSaid c) (w .not-min))
+
+-- a capture that is read, and is not of limit kind 1, is one that a writer may produce
+pub written-sound : (l : List ℕ) (h : Head) (xs : List Float) → All Byte l → (getD l 1 0 ≡ 1 → ⊥) → reading asRead l ≡ whole h xs
+    → Written Writable asWritten l h xs
+written-sound l h xs b not-min e =
+    let w = sound asRead l h xs b e in
+    let c = w .numbers in
+    let other : c .limit-kind ≡ 1 → ⊥ = λ one. not-min (ap (λ (m : List ℕ). getD m 1 0) (w .as-written) ∙ one) in
+    record {
+      numbers = c;
+      may = record { readable = w .may; not-min = other };
+      as-written = w .as-written;
+      head-said = sym (says-itself (c .limit-kind) (ofBits binary32 (c .limit)) (headSaid c) other) ∙ w .head-said;
+      sizes-said = w .sizes-said;
+    }

@@ -1,8 +1,10 @@
--- Document 01, "Records for the program": what a whole capture says, and where a broken one breaks. Assumes nothing.
+-- Document 01, "Records for the program": what a whole capture says, and where a broken one breaks. Document 02, Two: what a head means. Assumes nothing.
 use mathlib.Core.List.{List, [], _∷_}
 use Prim.Native.Nat.{ℕ, zero, suc, _+_}
 use lib.ListN.{length, drop}
 use lib.Ieee.{Float}
+use Rattle.breaklimit.specs.declared.AvailableSpace.{AvailableSpace}
+use Rattle.breaklimit.specs.declared.AvailableSpace.the-variants.{Definite, MinContent, MaxContent}
 use Rattle.format.specs.Format.{firstFront, laterFront}
 use Rattle.format.specs.declared.Head.{Head}
 use Rattle.format.specs.declared.Parsed.{Parsed}
@@ -50,15 +52,34 @@ abbrev pub under : Head → Rest → Reading
 under head (sizes rest) = whole head rest
 under head (faulty place) = broken place
 
--- a capture whose first record is kind 1 is read on under it; any other breaks where that record starts, at 0
-abbrev pub byHead : Parsed → Rest → Reading
-byHead (parsed.Head head) rest = under head rest
-byHead parsed.Partial rest = broken 0
-byHead parsed.Broken rest = broken 0
-byHead (parsed.Item size) rest = broken 0
-byHead parsed.End rest = broken 0
+-- a capture whose first record is kind 1 is read on under what that record means; any other breaks where that record starts, at 0
+abbrev pub byHead : (Head → Head) → Parsed → Rest → Reading
+byHead meaning (parsed.Head head) rest = under (meaning head) rest
+byHead meaning parsed.Partial rest = broken 0
+byHead meaning parsed.Broken rest = broken 0
+byHead meaning (parsed.Item size) rest = broken 0
+byHead meaning parsed.End rest = broken 0
 
 -- "One kind 1 first": 0 is the place of an empty input too
-unfoldable pub reading : List ℕ → Reading
+unfoldable pub reading : (Head → Head) → List ℕ → Reading
 unfolding items
-reading bytes = byHead (firstFront bytes) (items 12 (drop 12 bytes))
+reading meaning bytes = byHead meaning (firstFront bytes) (items 12 (drop 12 bytes))
+
+-- ---- what a head means
+
+-- document 01: just its numbers
+abbrev pub asWritten : Head → Head
+asWritten head = head
+
+-- document 02, Two: "read as max-content with the minimum set to 65,535"
+abbrev pub oneEach : Float → Head
+oneEach gap = record { limit = MaxContent; gap = gap; minimum = 65535 }
+
+-- "A capture with limit kind 1 now is" read so, and every other as written
+abbrev pub bySpace : AvailableSpace → Head → Head
+bySpace MinContent head = oneEach (head .gap)
+bySpace MaxContent head = head
+bySpace (Definite width) head = head
+
+abbrev pub asRead : Head → Head
+asRead head = bySpace (head .limit) head

@@ -1,5 +1,7 @@
--- Document 01, "Records for the program", from the writer's side: the bytes of a capture of given numbers. Only the theorems `complete` and `sound` of
--- proofs/Format.antt cite it: these are the captures that `reading` accepts, each with its numbers, and no others. Assumes nothing.
+-- Document 01, "Records for the program", from the writer's side: the bytes of a capture of given numbers; document 02, Two: which of them a writer may
+-- produce. Only the theorems of proofs/Format.antt cite it: the readable captures are those that `reading` accepts, each with its numbers, and no others;
+-- the writable ones mean what was written. Assumes nothing.
+use mathlib.Core.Path.{_≡_}
 use mathlib.Core.List.{List, [], _∷_, _++_, map}
 use Prim.Native.Nat.{ℕ, zero, suc, _/_, _%_, _<_, _≤_, _^_}
 use lib.Ieee.{Float, binary32, ofBits}
@@ -18,13 +20,18 @@ abbrev pub All : (ℕ → Type 0) → List ℕ → Type 0
 All P [] = Unit
 All P (x ∷ l) = P x × All P l
 
--- each number has room in its field, and the limit kind is one of the three
-pub record Writable (c : Numbers) : Type 0 where
+-- what may be read: each number has room in its field, and the limit kind is one of the three
+pub record Readable (c : Numbers) : Type 0 where
   pub kind-is : c .limit-kind ≤ 2
   pub limit-fits : c .limit < 2 ^ 32
   pub gap-fits : c .gap < 2 ^ 32
   pub minimum-fits : c .minimum < 2 ^ 16
   pub sizes-fit : All (λ n. n < 2 ^ 32) (c .sizes)
+
+-- what may be written: "Nobody writes limit kind 1 any more .. Writers must not produce it"
+pub record Writable (c : Numbers) : Type 0 where
+  pub readable : Readable c
+  pub not-min : c .limit-kind ≡ 1 → ⊥
 
 -- "Little-endian": a number in so many bytes
 abbrev pub bytesOf : ℕ → ℕ → List ℕ

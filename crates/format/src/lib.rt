@@ -4,6 +4,7 @@ ghost use Prim.Native.Nat.{_+_, _≤_, _<_};
 ghost use lib.ListN.{length};
 ghost use lib.Ieee.{binary32, ofBits};
 ghost use Rattle.format.specs.Format.{half, word, float, headOf, firstFront, laterFront};
+ghost use Rattle.format.specs.Reading.{oneEach, asRead};
 ghost use Rattle.format.specs.Parts.{front};
 use breaklimit::AvailableSpace;
 use breaklimit::space_of;
@@ -125,5 +126,27 @@ pub fn parse(stage: Stage, bytes: &[u8]) -> Parsed
         Stage::Items => parse_later(bytes),
         Stage::Ended => Parsed::Broken,
         Stage::Broken => Parsed::Broken,
+    }
+}
+
+fn one_each(gap: f32) -> Head
+    ensures { λ r. ⌜ r ≡ oneEach gap ⌝ }
+{
+    Head {
+        limit: AvailableSpace::MaxContent,
+        gap,
+        minimum: 65535,
+    }
+}
+
+// What a head means (document 02, Two): min-content is not written any more, but old captures hold it.
+pub fn as_read(head: Head) -> Head
+    ensures { λ r. ⌜ r ≡ asRead head ⌝ }
+{
+    let limit = head.limit;
+    match limit {
+        AvailableSpace::MinContent => one_each(head.gap),
+        AvailableSpace::MaxContent => head,
+        AvailableSpace::Definite(_) => head,
     }
 }

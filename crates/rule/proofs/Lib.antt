@@ -6,3 +6,4 @@ pub mod Exists
 pub mod Bridge
 pub mod Zeros
 pub mod Totals
+pub mod Ones

@@ -13,6 +13,9 @@ enum-known-said c = search needs
 enum-known-said-2 : tie.Need-enum-known-said-2
 enum-known-said-2 c = search needs
 
+as-read-requires : tie.Need-as-read-requires
+as-read-requires c κs = search needs
+
 answer-items-requires : tie.Need-answer-items-requires
 answer-items-requires c κs = search needs
 
@@ -23,7 +26,9 @@ same-length : tie.Need-same-length
 same-length c = search needs
 
 returns-2 : tie.Need-returns-2
-returns-2 c = rw (sym (c .before .before .before .before .before .before .before .finish .ensures) ∙ c .before .before .before .before .before .said2 .given .1) (c .before .before .answer-items .ensures)
+returns-2 c =
+    rw (sym (c .before .before .before .before .before .before .before .before .finish .ensures) ∙ c .before .before .before .before .before .before .said2 .given .1, sym (c .before .before .before .before .as-read .ensures))
+    (c .before .before .answer-items .ensures)
 
 pub answer-spec : {M : Type 1} → statement M
 answer-spec =
@@ -32,6 +37,7 @@ answer-spec =
     finish-requires
     enum-known-said
     enum-known-said-2
+    as-read-requires
     answer-items-requires
     returns
     same-length
