@@ -26,11 +26,11 @@ def head_bytes(words):
     given = dict(zip(words[::2], words[1::2]))
     if len(words) != 6 or set(given) != {"limit", "gap", "min"}:
         raise ValueError("the first part is: limit L gap G min M")
-    limit, gap = given["limit"], given["gap"]
-    if limit == "min":
-        raise ValueError("min-content is not written any more; for one item a line write: limit max gap %s min 65535" % gap)
+    limit, gap = given["limit"], float_bytes(given["gap"])
+    if limit.lower() in ("min", "min-content"):
+        raise ValueError("min-content is not written any more; for one item a line write: limit max gap %s min 65535" % given["gap"])
     kind_and_limit = bytes([MAX_CONTENT]) + bytes(4) if limit == "max" else bytes([0]) + float_bytes(limit)
-    return bytes([1]) + kind_and_limit + float_bytes(gap) + struct.pack("<H", int(given["min"]))
+    return bytes([1]) + kind_and_limit + gap + struct.pack("<H", int(given["min"]))
 
 
 def part_bytes(words, first):

@@ -1,18 +1,16 @@
--- Document 02, Two: captures "with limit kind 1 .. are read as max-content with the minimum set to 65,535, which gives one item a line as before, and
--- that sameness is wanted as a proved fact for every accepted item list". So it is for any bytes at all: with min-content kept, and as it is read now, a
--- capture has the same answers, counts and places. Assumes nothing.
-use mathlib.Core.Path.{_≡_, refl, sym, subst}
+-- Document 02, Two: "Captures that hold it still open: they are read as max-content with the minimum set to 65,535, which gives one item a line as
+-- before, and that sameness is wanted as a proved fact for every accepted item list." So it is for any bytes at all: with min-content kept, and as it is
+-- read now, a capture has the same answer, place and cells. Assumes nothing.
+use mathlib.Core.Path.{_≡_, refl, sym, _∙_, ap, subst}
 use mathlib.Core.Bool.{Bool, true, false}
-use mathlib.Core.Logic.{_↔_}
+use mathlib.Core.Logic.{_↔_, Iff·rfl}
 use mathlib.Core.List.{List, []}
 use Prim.Native.Nat.{ℕ, _≤_}
 use native.Mathlib.Omega.{arith}
-use native.Mathlib.Decide.{decLe}
-use borrow.Author.Tests.{lt-ltb, le-ltb}
 use lib.Dec.{ltb}
-use lib.ListN.{length, length-map}
+use lib.ListN.{length, replicate, length-map, length-replicate}
 use lib.IntN.{ℤ, pos}
-use lib.Ieee.{Float}
+use lib.Ieee.{Float, binary32, ofBits}
 use Rattle.grid.specs.Grid.{sixtyFourths}
 use Rattle.refusal.specs.declared.Verdict.{Verdict}
 use Rattle.refusal.specs.declared.Verdict.the-variants.{Passed}
@@ -21,68 +19,109 @@ use Rattle.breaklimit.specs.declared.AvailableSpace.{AvailableSpace}
 use Rattle.breaklimit.specs.declared.AvailableSpace.the-variants.{Definite, MinContent, MaxContent}
 use Rattle.breaking.specs.Breaking.{limitOf, min-content, max-content}
 use Rattle.breaking.specs.Calls.{breakingVerdict, units}
+use Rattle.breaking.specs.Calls as calls
 use Rattle.rule.specs.Rule.{Balanced}
 use Rattle.format.specs.Reading.{Reading, whole, broken, reading, asWritten, oneEach, bySpace, asRead}
+use Rattle.format.specs.Written.{Numbers, Readable, sizesSaid, written}
 use Rattle.format.specs.declared.Head.{Head}
 use Rattle.capture.specs.Answer.{verdictOf, Divided, ByVerdict, ByCount, Answered}
 use Rattle.spelling.specs.declared.Reply.{Reply}
+use Rattle.spelling.specs.declared.Reply.the-variants.{Lines}
 use Rattle.breaking.proofs.Accepted.{breakable}
-use Rattle.rule.proofs.Ones.{min-as-many, many-as-min}
+use Rattle.rule.proofs.Ones.{many-ones, min-as-many, many-as-min}
+use Rattle.format.proofs.Format.{old-read}
 use Rattle.format.proofs.Meaning.{meant, reading-meant}
+use Rattle.capture.proofs.Unique.{one-answer}
+
+-- ---- the rule's part, for every accepted list
 
 -- a record of limit kind 1, as it was written
-abbrev old : Float → ℕ → Head
+abbrev pub old : Float → ℕ → Head
 old gap minimum = record { limit = MinContent; gap = gap; minimum = minimum }
 
+abbrev pub Named : Head → List Float → List ℕ → Type 0
+Named head sizes d = Balanced (limitOf (head .limit)) (sixtyFourths (head .gap)) (units sizes) (head .minimum) d
+
+pub same-division : (gap : Float) (minimum : ℕ) (sizes : List Float) (d : List ℕ) → verdictOf (old gap minimum) sizes ≡ Passed
+    → Named (old gap minimum) sizes d ↔ Named (oneEach gap) sizes d
+unfolding limitOf
+same-division gap minimum sizes d e =
+    let xs = units sizes in
+    let lines = oneEach gap .minimum in
+    let a = breakable [] MinContent gap sizes true e .0 in
+    let g = a .gap-not-below-0 in
+    let enough : length xs ≤ lines = omega (arith, length-map sizes sixtyFourths, a .few) in (
+      subst (λ (z : ℤ). Balanced min-content z xs minimum d → Balanced max-content z xs lines d) (sym (g .1)) (min-as-many max-content (g .0) xs minimum lines enough d),
+      subst (λ (z : ℤ). Balanced max-content z xs lines d → Balanced min-content z xs minimum d) (sym (g .1)) (many-as-min max-content (g .0) xs minimum lines enough d),
+    )
+
+-- ---- of whole captures
+
 module _ (before : List ℕ) (r : Reply) (after : List ℕ) where
-  abbrev Named : Head → List Float → List ℕ → Type 0
-  Named head sizes d = Balanced (limitOf (head .limit)) (sixtyFourths (head .gap)) (units sizes) (head .minimum) d
-
   renamed : (h k : Head) (sizes : List Float) → ((d : List ℕ) → Named h sizes d → Named k sizes d) → Divided h sizes before r after → Divided k sizes before r after
-  renamed h k sizes same d = record { division = d .division; balanced = same (d .division) (d .balanced); lines = d .lines; cells = d .cells }
+  renamed h k sizes by d = record { division = d .division; balanced = by (d .division) (d .balanced); lines = d .lines; cells = d .cells }
 
-  divided : (gap : Float) (minimum : ℕ) (sizes : List Float) → length sizes ≤ 64 → (z : ℕ) × (sixtyFourths gap ≡ pos z)
-      → Divided (old gap minimum) sizes before r after ↔ Divided (oneEach gap) sizes before r after
-  unfolding limitOf
-  divided gap minimum sizes few g =
-      let xs = units sizes in
-      let lines = oneEach gap .minimum in
-      let enough : length xs ≤ lines = omega (arith, length-map sizes sixtyFourths) in (
-        renamed (old gap minimum) (oneEach gap) sizes
-            (λ d. subst (λ (z : ℤ). Balanced min-content z xs minimum d → Balanced max-content z xs lines d) (sym (g .1)) (min-as-many max-content (g .0) xs minimum lines enough d)),
-        renamed (oneEach gap) (old gap minimum) sizes
-            (λ d. subst (λ (z : ℤ). Balanced max-content z xs lines d → Balanced min-content z xs minimum d) (sym (g .1)) (many-as-min max-content (g .0) xs minimum lines enough d)),
-      )
-
-  judged : (gap : Float) (minimum : ℕ) (sizes : List Float) → length sizes ≤ 64 → (v : Verdict) → verdictOf (old gap minimum) sizes ≡ v
+  judged : (gap : Float) (minimum : ℕ) (sizes : List Float) (v : Verdict) → verdictOf (old gap minimum) sizes ≡ v
       → ByVerdict v (old gap minimum) sizes before r after ↔ ByVerdict v (oneEach gap) sizes before r after
-  judged gap minimum sizes few Passed e = divided gap minimum sizes few (breakable [] MinContent gap sizes true e .0 .gap-not-below-0)
-  judged gap minimum sizes few (verdict.Refused why) e = ((λ a. a), (λ a. a))
+  judged gap minimum sizes Passed e = (
+    renamed (old gap minimum) (oneEach gap) sizes (λ d. same-division gap minimum sizes d e .0),
+    renamed (oneEach gap) (old gap minimum) sizes (λ d. same-division gap minimum sizes d e .1),
+  )
+  judged gap minimum sizes (verdict.Refused why) e = Iff·rfl
 
-  -- the limit's number is the only one that the two do not share, and neither kind has it
-  counted : (gap : Float) (minimum : ℕ) (sizes : List Float) → ByCount (ltb 64 (length sizes)) (old gap minimum) sizes before r after
-      ↔ ByCount (ltb 64 (length sizes)) (oneEach gap) sizes before r after
+  -- they differ in the limit and in the minimum, and the checks take neither a bare limit nor a minimum: one verdict for both
+  counted : (many : Bool) (gap : Float) (minimum : ℕ) (sizes : List Float)
+      → ByCount many (old gap minimum) sizes before r after ↔ ByCount many (oneEach gap) sizes before r after
   unfolding breakingVerdict
-  counted gap minimum sizes = go (decLe (length sizes) 64)
-    where
-      Same : Bool → Type 0
-      Same many = ByCount many (old gap minimum) sizes before r after ↔ ByCount many (oneEach gap) sizes before r after
-
-      go : Dec (length sizes ≤ 64) → Same (ltb 64 (length sizes))
-      go (yes few) = subst Same (sym (le-ltb 64 (length sizes) few)) (judged gap minimum sizes few (verdictOf (old gap minimum) sizes) refl)
-      go (no lots) = subst Same (sym (lt-ltb 64 (length sizes) (omega arith))) ((λ a. a), (λ a. a))
+  counted true gap minimum sizes = Iff·rfl
+  counted false gap minimum sizes = judged gap minimum sizes (verdictOf (old gap minimum) sizes) refl
 
   by-space : (space : AvailableSpace) (gap : Float) (minimum : ℕ) (sizes : List Float)
       → (let head : Head = record { limit = space; gap = gap; minimum = minimum } in
       Answered (whole head sizes) before r after ↔ Answered (whole (asRead head) sizes) before r after)
-  by-space MinContent gap minimum sizes = counted gap minimum sizes
-  by-space MaxContent gap minimum sizes = ((λ a. a), (λ a. a))
-  by-space (Definite width) gap minimum sizes = ((λ a. a), (λ a. a))
+  by-space MinContent gap minimum sizes = counted (ltb 64 (length sizes)) gap minimum sizes
+  by-space MaxContent gap minimum sizes = Iff·rfl
+  by-space (Definite width) gap minimum sizes = Iff·rfl
 
   said : (t : Reading) → Answered t before r after ↔ Answered (meant asRead t) before r after
   said (whole head sizes) = by-space (head .limit) (head .gap) (head .minimum) sizes
-  said (broken place) = ((λ a. a), (λ a. a))
+  said (broken place) = Iff·rfl
 
-  pub same-answer : (l : List ℕ) → Answered (reading asWritten l) before r after ↔ Answered (reading asRead l) before r after
-  same-answer l =
+  -- what is allowed with min-content kept is allowed as it is read now, and nothing else
+  pub same-allowed : (l : List ℕ) → Answered (reading asWritten l) before r after ↔ Answered (reading asRead l) before r after
+  same-allowed l =
       subst (λ (t : Reading). Answered (reading asWritten l) before r after ↔ Answered t before r after) (sym (reading-meant asRead l)) (said (reading asWritten l))
+
+-- so a program before and a program after give one answer and one list of cells
+pub same-reply : (l before : List ℕ) (r s : Reply) (a c : List ℕ) → Answered (reading asWritten l) before r a → Answered (reading asRead l) before s c
+    → (r ≡ s) × (a ≡ c)
+same-reply l before r s a c p q = one-answer before r s a c (reading asRead l) (same-allowed before r a l .0 p) q
+
+-- ---- one item a line
+
+module _ (before : List ℕ) (k : ℕ) (after : List ℕ) where
+  abbrev Ones : List Float → Type 0
+  Ones sizes = (k ≡ length sizes) × (after ≡ calls.written (length sizes) (replicate (length sizes) 1) before)
+
+  ones-divided : (gap : Float) (sizes : List Float) → verdictOf (oneEach gap) sizes ≡ Passed → Divided (oneEach gap) sizes before (Lines k) after → Ones sizes
+  ones-divided gap sizes e d =
+      let few = breakable [] MaxContent gap sizes true e .0 .few in
+      let n : length (units sizes) ≡ length sizes = length-map sizes sixtyFourths in
+      let ones = many-ones _ _ (units sizes) (oneEach gap .minimum) (d .division) (omega (arith, n)) (d .balanced) ∙ ap (λ (m : ℕ). replicate m 1) n in (
+        (let same : k ≡ length (d .division) = cc (d .lines) in same ∙ ap length ones ∙ length-replicate (length sizes) 1),
+        d .cells ∙ ap (λ (l : List ℕ). calls.written (length sizes) l before) ones,
+      )
+
+  ones-judged : (v : Verdict) (gap : Float) (sizes : List Float) → verdictOf (oneEach gap) sizes ≡ v → ByVerdict v (oneEach gap) sizes before (Lines k) after → Ones sizes
+  ones-judged Passed gap sizes e d = ones-divided gap sizes e d
+  ones-judged (verdict.Refused why) gap sizes e (told, kept) = let z : _≡_ {A = ℕ} 0 1 = cc in absurd (omega arith)
+
+  ones-counted : (many : Bool) (gap : Float) (sizes : List Float) → ByCount many (oneEach gap) sizes before (Lines k) after → Ones sizes
+  ones-counted true gap sizes (told, kept) = let z : _≡_ {A = ℕ} 0 1 = cc in absurd (omega arith)
+  ones-counted false gap sizes d = ones-judged (verdictOf (oneEach gap) sizes) gap sizes refl d
+
+  -- an old capture that is accepted has as many lines as items, of one item each
+  pub one-a-line : (c : Numbers) → Readable c → c .limit-kind ≡ 1 → Answered (reading asRead (written c)) before (Lines k) after → Ones (sizesSaid c)
+  one-a-line c fit one a =
+      ones-counted (ltb 64 (length (sizesSaid c))) (ofBits binary32 (c .gap)) (sizesSaid c)
+      (subst (λ (t : Reading). Answered t before (Lines k) after) (old-read c fit one) a)

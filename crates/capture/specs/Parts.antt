@@ -19,7 +19,7 @@ abbrev pub replyOf : Answer → Reply
 replyOf (Done lines rounds) = Lines lines
 replyOf (answer.Refused why) = Refused why
 
--- the answer of a finished reader, which keeps 64 sizes
+-- the answer of a finished reader, which keeps 64 sizes, and the head as it was written
 abbrev pub AnsweredTo : Captured → List Float → List ℕ → Reply → List ℕ → Type 0
 AnsweredTo (captured.Broken place) room before r after = Refuses (Broken place) before r after
 AnsweredTo (Whole head items) room before r after = ByCount (ltb 64 items) (asRead head) (take items room) before r after

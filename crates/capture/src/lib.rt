@@ -57,7 +57,8 @@ fn answer_items(head: Head, items: usize, sizes: &[f32], counts: &mut [u32]) -> 
     break_items(head, &sizes[..items], counts)
 }
 
-// The answer once the last byte was fed. For programs that feed a capture in parts: it asks for the lists that they feed, and is no entry point.
+// The answer once the last byte was fed. The reader has the head as it was written: here it gets its meaning. For programs that feed a capture in
+// parts: it asks for the lists that they feed, and is no entry point.
 pub fn answer(r: Reader, sizes: &[f32], counts: &mut [u32]) -> Reply
     requires { ⌜ (length (now sizes) ≡ 64) × (length (now counts) ≡ 64) ⌝ }
     ensures { λ s. ⌜ AnsweredTo (finished r) (now (sizes .entry)) (now (counts .entry)) s (now (counts .exit)) ⌝ }

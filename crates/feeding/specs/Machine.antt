@@ -1,5 +1,5 @@
 -- A reader that takes a burst at a time, and how it goes on by a byte. Only contracts of parts cite it; `said` of proofs/ says that it finds what
--- the plain reading of crate format finds. Assumes nothing.
+-- the plain reading of crate format finds, the head as it was written. Assumes nothing.
 use mathlib.Core.Path.{_≡_}
 use mathlib.Core.Logic.{_⊎_}
 use mathlib.Core.Bool.{cond}

@@ -1,5 +1,6 @@
 -- The reading is sound and complete, whatever a head is taken to mean: every capture of readable numbers is read as these numbers, and whatever is
--- read as a capture has them. Document 02, Two: of the numbers that a writer may produce it means what was written. Assumes nothing.
+-- read as a capture has such numbers. Document 02, Two: what a writer may produce is read as it was written, and limit kind 1 as the request says.
+-- Assumes nothing.
 use mathlib.Core.Path.{_≡_, refl, sym, _∙_, ap, subst}
 use mathlib.Core.List.{List, [], _∷_, _++_, map}
 use Prim.Native.Nat.{ℕ, zero, suc, _+_, _*_, _/_, _%_, _<_, _≤_, _^_}
@@ -8,6 +9,7 @@ use native.Mathlib.Omega.{arith}
 use lib.ListN.{length, getD, drop}
 use lib.Ieee.{Float, binary32, ofBits}
 use Rattle.breaklimit.specs.Limit.{spaceOf}
+use Rattle.breaklimit.specs.declared.AvailableSpace.the-variants.{MaxContent}
 use Rattle.format.specs.Format.{kind, half, word, float, headOf, firstFront, laterFront}
 use Rattle.format.specs.Reading.{Rest, sizes, faulty, more, byRecord, ending, itemsOf, items, whole, under, byHead, reading, asWritten, bySpace, asRead}
 use Rattle.format.specs.Written.{Numbers, All, Readable, Writable, bytesOf, itemBytes, written, headSaid, sizesSaid}
@@ -143,7 +145,7 @@ items-sound (suc n) place l xs b e = go (f.later-cases l) (λ ys w. items-sound 
         item-before l (five-of l m) b k t (next (t .others) (t .rest-is))
     go (f.Later.end k) next = end-alone (place + 1) l xs k (by parsed.End (f.later-end l k))
 
--- the bytes of some numbers that may be so, and what these say
+-- the bytes of some numbers for which `May` holds, and what these say
 pub record Written (May : Numbers → Type 0) (meaning : Head → Head) (l : List ℕ) (h : Head) (xs : List Float) : Type 0 where
   pub numbers : Numbers
   pub may : May numbers
@@ -216,6 +218,9 @@ says-itself zero limit head not-min = refl
 says-itself (suc zero) limit head not-min = absurd (not-min refl)
 says-itself (suc (suc kind)) limit head not-min = refl
 
+pub never-min : (c : Numbers) → Writable c → getD (written c) 1 0 ≡ 1 → ⊥
+never-min c w = w .not-min
+
 pub written-complete : (c : Numbers) → Writable c → reading asRead (written c) ≡ whole (headSaid c) (sizesSaid c)
 written-complete c w =
     complete asRead c (w .readable)
@@ -235,3 +240,12 @@ written-sound l h xs b not-min e =
       head-said = sym (says-itself (c .limit-kind) (ofBits binary32 (c .limit)) (headSaid c) other) ∙ w .head-said;
       sizes-said = w .sizes-said;
     }
+
+-- ---- what is read and no more written
+
+-- limit kind 1: the record's own limit and minimum are not read
+pub old-read : (c : Numbers) → Readable c → c .limit-kind ≡ 1
+    → reading asRead (written c) ≡ whole (record { limit = MaxContent; gap = ofBits binary32 (c .gap); minimum = 65535 }) (sizesSaid c)
+old-read c fit one =
+    complete asRead c fit
+    ∙ ap (λ (kind : ℕ). whole (bySpace (spaceOf kind (ofBits binary32 (c .limit))) (headSaid c)) (sizesSaid c)) one

@@ -71,11 +71,11 @@ reading meaning bytes = byHead meaning (firstFront bytes) (items 12 (drop 12 byt
 abbrev pub asWritten : Head → Head
 asWritten head = head
 
--- document 02, Two: "read as max-content with the minimum set to 65,535"
+-- document 02, Two: "they are read as max-content with the minimum set to 65,535"
 abbrev pub oneEach : Float → Head
 oneEach gap = record { limit = MaxContent; gap = gap; minimum = 65535 }
 
--- "A capture with limit kind 1 now is" read so, and every other as written
+-- "Captures that hold it still open": those with limit kind 1, which is min-content, are read so, and all others as written
 abbrev pub bySpace : AvailableSpace → Head → Head
 bySpace MinContent head = oneEach (head .gap)
 bySpace MaxContent head = head

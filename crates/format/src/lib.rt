@@ -129,6 +129,7 @@ pub fn parse(stage: Stage, bytes: &[u8]) -> Parsed
     }
 }
 
+// One item a line: a capture has fewer items than that, or is refused.
 fn one_each(gap: f32) -> Head
     ensures { λ r. ⌜ r ≡ oneEach gap ⌝ }
 {
@@ -139,7 +140,7 @@ fn one_each(gap: f32) -> Head
     }
 }
 
-// What a head means (document 02, Two): min-content is not written any more, but old captures hold it.
+// What a head means (document 02, Two). Min-content is not written any more; old captures that hold it mean one item a line.
 pub fn as_read(head: Head) -> Head
     ensures { λ r. ⌜ r ≡ asRead head ⌝ }
 {

@@ -1,4 +1,4 @@
--- `capture::read` meets its contract: a reader that was fed the whole capture says what `reading` says. Assumes nothing.
+-- `capture::read` meets its contract: a reader that was fed the whole capture says what `reading` says, once its head has its meaning. Assumes nothing.
 use mathlib.Core.Path.{_≡_, refl, sym, _∙_, ap, subst}
 use native.Mathlib.Omega.{arith}
 use lib.ListN.{length, replicate}
