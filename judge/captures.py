@@ -210,7 +210,7 @@ def answer_of(program, data, cuts):
         time.sleep(0.002)
     out = child.communicate()[0]
     if child.returncode:
-        sys.exit("the program failed")
+        sys.exit("failed: " + " ".join(program))
     return out.decode()
 
 
@@ -219,8 +219,8 @@ def main():
     p.add_argument("program", nargs="+")
     p.add_argument("--seed", type=int, default=random.SystemRandom().randrange(1 << 32))
     p.add_argument("--runs", type=int, default=2000)
-    p.add_argument("--limit-kind", type=int, choices=(0, 1, 2))
-    p.add_argument("--before", metavar="PROGRAM")
+    p.add_argument("--limit-kind", type=int, choices=(0, 1, 2), help="of the random captures, before they are damaged")
+    p.add_argument("--before", metavar="PROGRAM", help="an older program that must print the same bytes")
     a = p.parse_args()
     rng = random.Random(a.seed)
     seen = {}

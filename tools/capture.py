@@ -14,32 +14,41 @@ import struct
 import sys
 
 MAX_CONTENT = 2
+FIRST = "the first part is: limit L gap G min M, where L is a number or max"
 
 
 def float_bytes(text):
-    if text.startswith("0x"):
-        return struct.pack("<I", int(text, 16))
-    return struct.pack("<f", float(text))
+    try:
+        return struct.pack("<I", int(text, 16)) if text.startswith("0x") else struct.pack("<f", float(text))
+    except (ValueError, struct.error, OverflowError):
+        raise ValueError("neither a float nor its 32 bits: " + text) from None
+
+
+def count_bytes(text):
+    try:
+        return struct.pack("<H", int(text))
+    except (ValueError, struct.error):
+        raise ValueError("the minimum is a whole number from 0 to 65535: " + text) from None
 
 
 def head_bytes(words):
     given = dict(zip(words[::2], words[1::2]))
     if len(words) != 6 or set(given) != {"limit", "gap", "min"}:
-        raise ValueError("the first part is: limit L gap G min M")
-    limit, gap = given["limit"], float_bytes(given["gap"])
+        raise ValueError(FIRST)
+    limit, gap, minimum = given["limit"], float_bytes(given["gap"]), count_bytes(given["min"])
     if limit.lower() in ("min", "min-content"):
         raise ValueError("min-content is not written any more; for one item a line write: limit max gap %s min 65535" % given["gap"])
     kind_and_limit = bytes([MAX_CONTENT]) + bytes(4) if limit == "max" else bytes([0]) + float_bytes(limit)
-    return bytes([1]) + kind_and_limit + gap + struct.pack("<H", int(given["min"]))
+    return bytes([1]) + kind_and_limit + gap + minimum
 
 
 def part_bytes(words, first):
-    if words[0] == "raw":
+    if words[:1] == ["raw"]:
         return bytes.fromhex("".join(words[1:]))
     if first:
         return head_bytes(words)
     if len(words) != 1:
-        raise ValueError("an item is one size: " + " ".join(words))
+        raise ValueError("an item is one size: " + (" ".join(words) or "nothing"))
     return bytes([2]) + float_bytes(words[0])
 
 
@@ -56,13 +65,14 @@ def main():
     if len(sys.argv) < 2:
         sys.exit(__doc__)
     try:
-        sys.stdout.buffer.write(capture(" ".join(sys.argv[1:])))
+        asks = sys.argv[1] in ("-h", "--help")
+        sys.stdout.buffer.write(__doc__.encode() if asks else capture(" ".join(sys.argv[1:])))
         sys.stdout.buffer.flush()
     except BrokenPipeError:
         # whoever reads has ended, and has said why
         os.dup2(os.open(os.devnull, os.O_WRONLY), sys.stdout.fileno())
         sys.exit(1)
-    except (ValueError, IndexError, struct.error, OverflowError) as fault:
+    except ValueError as fault:
         sys.exit("capture.py: " + str(fault))
 
 
