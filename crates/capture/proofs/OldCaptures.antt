@@ -9,7 +9,7 @@ use Prim.Native.Nat.{ℕ, _≤_}
 use native.Mathlib.Omega.{arith}
 use lib.Dec.{ltb}
 use lib.ListN.{length, replicate, length-map, length-replicate}
-use lib.IntN.{ℤ, pos}
+use lib.IntN.{ℤ}
 use lib.Ieee.{Float, binary32, ofBits}
 use Rattle.grid.specs.Grid.{sixtyFourths}
 use Rattle.refusal.specs.declared.Verdict.{Verdict}
@@ -21,7 +21,7 @@ use Rattle.breaking.specs.Breaking.{limitOf, min-content, max-content}
 use Rattle.breaking.specs.Calls.{breakingVerdict, units}
 use Rattle.breaking.specs.Calls as calls
 use Rattle.rule.specs.Rule.{Balanced}
-use Rattle.format.specs.Reading.{Reading, whole, broken, reading, asWritten, oneEach, bySpace, asRead}
+use Rattle.format.specs.Reading.{Reading, whole, broken, reading, asWritten, oneEach, asRead}
 use Rattle.format.specs.Written.{Numbers, Readable, sizesSaid, written}
 use Rattle.format.specs.declared.Head.{Head}
 use Rattle.capture.specs.Answer.{verdictOf, Divided, ByVerdict, ByCount, Answered}
