@@ -14,7 +14,6 @@ import struct
 import sys
 
 MAX_CONTENT = 2
-FIRST = "the first part is: limit L gap G min M, where L is a number or max"
 
 
 def float_bytes(text):
@@ -34,7 +33,7 @@ def count_bytes(text):
 def head_bytes(words):
     given = dict(zip(words[::2], words[1::2]))
     if len(words) != 6 or set(given) != {"limit", "gap", "min"}:
-        raise ValueError(FIRST)
+        raise ValueError("the first part is: limit L gap G min M, where L is a number or max")
     limit, gap, minimum = given["limit"], float_bytes(given["gap"]), count_bytes(given["min"])
     if limit.lower() in ("min", "min-content"):
         raise ValueError("min-content is not written any more; for one item a line write: limit max gap %s min 65535" % given["gap"])

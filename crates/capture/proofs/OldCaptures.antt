@@ -28,7 +28,7 @@ use Rattle.capture.specs.Answer.{verdictOf, Divided, ByVerdict, ByCount,
 use Rattle.spelling.specs.declared.Reply.{Reply}
 use Rattle.spelling.specs.declared.Reply.the-variants.{Lines}
 use Rattle.breaking.proofs.Accepted.{breakable}
-use Rattle.rule.proofs.Ones.{many-ones, min-as-many, many-as-min}
+use Rattle.rule.proofs.Ones.{many-ones, min-as-many}
 use Rattle.format.proofs.Format.{old-read}
 use Rattle.format.proofs.Meaning.{meant, reading-meant}
 use Rattle.capture.proofs.Unique.{one-answer}
@@ -50,10 +50,8 @@ same-division gap minimum sizes d e =
     let lines = oneEach gap .minimum in
     let a = breakable [] MinContent gap sizes true e .0 in
     let g = a .gap-not-below-0 in
-    let enough : length xs ≤ lines = omega (arith, length-map sizes sixtyFourths, a .few) in (
-      subst (λ (z : ℤ). Balanced min-content z xs minimum d → Balanced max-content z xs lines d) (sym (g .1)) (min-as-many max-content (g .0) xs minimum lines enough d),
-      subst (λ (z : ℤ). Balanced max-content z xs lines d → Balanced min-content z xs minimum d) (sym (g .1)) (many-as-min max-content (g .0) xs minimum lines enough d),
-    )
+    let enough : length xs ≤ lines = omega (arith, length-map sizes sixtyFourths, a .few) in
+    subst (λ (z : ℤ). Balanced min-content z xs minimum d ↔ Balanced max-content z xs lines d) (sym (g .1)) (min-as-many max-content (g .0) xs minimum lines enough d)
 
 -- ---- of whole captures
 

@@ -1,6 +1,6 @@
 -- Document 01, "Records for the program", from the writer's side: the bytes of a capture of given numbers; document 02, Two: which of them a writer may
--- produce. Only the theorems of proofs/Format.antt cite it: the readable captures are those that `reading` accepts, each with its numbers, and no others;
--- the writable ones mean what was written. Assumes nothing.
+-- produce. Only theorems cite it, of proofs/Format.antt and of crate capture: the readable captures are those that `reading` accepts, each with its
+-- numbers, and no others; the writable ones mean what was written. Assumes nothing.
 use mathlib.Core.Path.{_≡_}
 use mathlib.Core.List.{List, [], _∷_, _++_, map}
 use Prim.Native.Nat.{ℕ, zero, suc, _/_, _%_, _<_, _≤_, _^_}

@@ -129,7 +129,7 @@ pub fn parse(stage: Stage, bytes: &[u8]) -> Parsed
     }
 }
 
-// One item a line: a capture has fewer items than that, or is refused.
+// One item a line, since an accepted capture has fewer items than 65,535.
 fn one_each(gap: f32) -> Head
     ensures { λ r. ⌜ r ≡ oneEach gap ⌝ }
 {

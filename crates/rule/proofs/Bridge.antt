@@ -7,7 +7,7 @@ use mathlib.Core.List.{List, [], _∷_, _++_, map}
 use Prim.Native.Nat.{ℕ, zero, suc, _+_, _-_, _≤_, _<_, zero-le, suc-le-suc}
 use native.Mathlib.Omega.{arith}
 use lib.Dec.{T, leb, leb→le, le→leb}
-use lib.ListN.{length, take, drop, replicate, length-map, length-drop, List·getD-map}
+use lib.ListN.{length, take, drop, length-map, length-drop, List·getD-map}
 use lib.Seq.{append-snoc}
 use lib.IntN.{ℤ, pos, negsuc, natAbs, _+ℤ_}
 use Rattle.breaking.specs.Breaking.{Limit, min-content, max-content, definite, fits, lineSize, taken, linesOf, greedy}
@@ -229,21 +229,3 @@ balanced-some limit g [] minimum = ([], none-balanced limit (pos g) minimum)
 balanced-some limit g (z ∷ zs) minimum =
     let b : (d : List ℕ) × nat.Balanced (natural limit) g (map size (z ∷ zs)) minimum d = balanced-exists (natural limit) g (map size (z ∷ zs)) minimum (suc-le-suc zero-le) in
     (b .0, balanced-is limit g (z ∷ zs) minimum (b .0) (b .1))
-
--- "min-content gives one item to each line"
-ones : (gap : ℤ) (xs : List ℤ) (d : List ℕ) → Valid min-content gap xs d → d ≡ replicate (length xs) 1
-unfolding fits
-ones gap [] [] v = refl
-ones gap (x ∷ xs) [] v = absurd (omega (arith, ap length v))
-ones gap xs (c ∷ d) (l, v) = one (λ r. ones gap r d) (l .fit)
-  where
-    one : ((r : List ℤ) → Valid min-content gap r d → d ≡ replicate (length r) 1) → (c ≡ 1) ⊎ T (fits min-content (lineSize gap (take c xs))) → c ∷ d ≡ replicate (length xs) 1
-    one rest (inr t) = absurd t
-    one rest (inl e) = cut xs (l .enough) (rw e at v)
-      where
-        cut : (ys : List ℤ) → c ≤ length ys → Valid min-content gap (drop 1 ys) d → c ∷ d ≡ replicate (length ys) 1
-        cut [] h w = absurd (omega (arith, l .positive))
-        cut (y ∷ ys) h w = rw (e, rest ys w)
-
-pub min-content-ones : (gap : ℤ) (sizes : List ℤ) (minimum : ℕ) (d : List ℕ) → Balanced min-content gap sizes minimum d → d ≡ replicate (length sizes) 1
-min-content-ones gap sizes minimum d b = rw (← (length-map sizes floored)) (ones gap (map floored sizes) d (b .valid))
