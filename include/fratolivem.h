@@ -51,6 +51,11 @@ enum {
     FRATOLIVEM_NO_LIMIT = 3     /* of a refused break limit; handed on as a limit it is refused, 5 at the container */
 };
 
+#define FRATOLIVEM_VERSION "0.1.0"
+#define FRATOLIVEM_VERSION_MAJOR 0
+#define FRATOLIVEM_VERSION_MINOR 1
+#define FRATOLIVEM_VERSION_PATCH 0
+
 #define FRATOLIVEM_MOST_ITEMS 1024
 
 typedef struct {

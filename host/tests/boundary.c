@@ -144,6 +144,10 @@ int main(void) {
     const float holed[] = {5, 6, NAN, 0.01f};
     fratolivem_answer a;
     fratolivem_limit l;
+    char version[16];
+
+    sprintf(version, "%d.%d.%d", FRATOLIVEM_VERSION_MAJOR, FRATOLIVEM_VERSION_MINOR, FRATOLIVEM_VERSION_PATCH);
+    expect(strcmp(version, FRATOLIVEM_VERSION) == 0, "the version, as a string and as three numbers");
 
     example("P1", FRATOLIVEM_DEFINITE, 100, 10, 1, LIST(70, 0, 20), COUNTS(2, 1));
     example("P2", FRATOLIVEM_DEFINITE, 100, 0, 1, LIST(150, 0, 30), COUNTS(1, 2));

@@ -12,38 +12,40 @@ use lib.IntN.{ℤ}
 use lib.Ieee.{Float, binary64, ofBits}
 use mir.Facts.{and-yes}
 use Rattle.grid.specs.Grid.{sixtyFourths}
-use Rattle.refusal.specs.Domain.{Number}
-use Rattle.refusal.specs.declared.Refusal.{Refusal}
-use Rattle.refusal.specs.declared.Verdict.{Verdict}
-use Rattle.refusal.specs.declared.Verdict.the-variants.{Passed}
-use Rattle.refusal.specs.declared.Verdict.the-variants as verdict
-use Rattle.refusal.specs.declared.Answer.{Answer}
-use Rattle.refusal.specs.declared.Answer.the-variants.{Done}
-use Rattle.refusal.specs.declared.Answer.the-variants as answer
-use Rattle.refusal.proofs.Verdicts.{not-both, same-why}
-use Rattle.breaklimit.specs.declared.AvailableSpace.{AvailableSpace}
-use Rattle.breaking.specs.Breaking.{Limit, limitOf}
-use Rattle.breaking.specs.Calls.{breakingVerdict, units}
-use Rattle.breaking.specs.Steps.{Breakable, filled, cleared}
-use Rattle.breaking.proofs.Accepted.{breakable}
-use Rattle.rule.specs.Rule.{floored, Valid}
-use Rattle.balance.specs.Calls.{Lent, lent, hasRoom, balancedVerdict, worked, Divides, BalancedCall}
-use Rattle.balance.specs.Parts.{Roomy, lists, Room, Searched}
-use Rattle.balance.proofs.Cells.{cleared-part, clear-on}
-use Rattle.division.specs.Divided.{Divided, Cleared, ClearedF}
-use Rattle.rule.proofs.DpLaws.{lt-or-ge}
-use Rattle.rule.proofs.Unique.{balanced-one}
+use Rattle.checks.specs.Domain.{Number}
+use Rattle.checks.specs.declared.Refusal.{Refusal}
+use Rattle.checks.specs.declared.Verdict.{Verdict}
+use Rattle.checks.specs.declared.Verdict.the-variants.{Passed}
+use Rattle.checks.specs.declared.Verdict.the-variants as verdict
+use Rattle.checks.specs.declared.Answer.{Answer}
+use Rattle.checks.specs.declared.Answer.the-variants.{Done}
+use Rattle.checks.specs.declared.Answer.the-variants as answer
+use Rattle.checks.proofs.Verdicts.{not-both, same-why}
+use Rattle.keywords.specs.declared.AvailableSpace.{AvailableSpace}
+use Rattle.break_greedy.specs.Breaking.{Limit, limitOf}
+use Rattle.break_greedy.specs.Calls.{breakingVerdict, units}
+use Rattle.lists.specs.Cells.{filled}
+use Rattle.break_greedy.specs.Steps.{Breakable}
+use Rattle.break_greedy.proofs.Accepted.{breakable}
+use Rattle.balance_rule.specs.Rule.{floored, Valid}
+use Rattle.balance.specs.Calls.{BreakLent, breakLent, hasRoom, balancedVerdict, worked, Divides, BalancedCall}
+use Rattle.balance.specs.Parts.{Roomy, searchLists, SearchRoom, Searched}
+use Rattle.lists.proofs.Filling.{fill-on}
+use Rattle.balance.proofs.Cells.{cleared-part}
+use Rattle.balance_division.specs.Divided.{BalancedCounts, Cleared, ClearedF}
+use Rattle.balance_rule.proofs.DpLaws.{lt-or-ge}
+use Rattle.balance_rule.proofs.Unique.{balanced-one}
 
 -- ---- room
-room-of : (n : ℕ) (l : Lent) → T (hasRoom n l) → Roomy n l
+room-of : (n : ℕ) (l : BreakLent) → T (hasRoom n l) → Roomy n l
 room-of n l t =
     let p = and-yes (leb n (length (l .counts))) (leb (n * n + 3 * n) (length (l .work)) && leb (3 * n) (length (l .sums))) t in
     let q = and-yes (leb (n * n + 3 * n) (length (l .work))) (leb (3 * n) (length (l .sums))) (p .1) in
     (leb→le n (length (l .counts)) (p .0), leb→le (n * n + 3 * n) (length (l .work)) (q .0), leb→le (3 * n) (length (l .sums)) (q .1))
 
 -- the search has room: in the lent lists, and in those of the frame, which have `most` cells
-pub frame-room : (most n : ℕ) (counts work : List ℕ) (sums : List Float) → n ≤ most → Roomy n (lent counts work sums)
-    → Room n (lists counts work (replicate most 0) (replicate most 0) (replicate most 0) sums (replicate most (ofBits binary64 0)) (replicate most (ofBits binary64 0)))
+pub frame-room : (most n : ℕ) (counts work : List ℕ) (sums : List Float) → n ≤ most → Roomy n (breakLent counts work sums)
+    → SearchRoom n (searchLists counts work (replicate most 0) (replicate most 0) (replicate most 0) sums (replicate most (ofBits binary64 0)) (replicate most (ofBits binary64 0)))
 frame-room most n counts work sums h q =
     let u : n ≤ length (replicate {A = ℕ} most 0) = omega (arith, length-replicate {A = ℕ} most 0) in
     let f : n ≤ length (replicate most (ofBits binary64 0)) = omega (arith, length-replicate most (ofBits binary64 0)) in
@@ -61,9 +63,9 @@ frame-room most n counts work sums h q =
 -- ---- the cells
 module _ (limit : AvailableSpace) (gap : Float) (minimum : ℕ) (sizes : List Float) where
   -- what lies past the cells of the search stays
-  pub searches : (b : Lent) (r : ℕ) (counts opts : List ℕ) (sums : List Float) → length sizes * length sizes ≤ length (b .work) → length sizes ≤ length (b .sums)
-      → Divided limit gap minimum sizes r counts → Cleared (take (length sizes * length sizes) (b .work)) opts → ClearedF (take (length sizes) (b .sums)) sums
-      → Searched limit gap minimum sizes b r (lent (counts ++ drop (length sizes) (b .counts)) (opts ++ drop (length sizes * length sizes) (b .work)) (sums ++ drop (length sizes) (b .sums)))
+  pub searches : (b : BreakLent) (r : ℕ) (counts opts : List ℕ) (sums : List Float) → length sizes * length sizes ≤ length (b .work) → length sizes ≤ length (b .sums)
+      → BalancedCounts limit gap minimum sizes r counts → Cleared (take (length sizes * length sizes) (b .work)) opts → ClearedF (take (length sizes) (b .sums)) sums
+      → Searched limit gap minimum sizes b r (breakLent (counts ++ drop (length sizes) (b .counts)) (opts ++ drop (length sizes * length sizes) (b .work)) (sums ++ drop (length sizes) (b .sums)))
   searches b r counts opts sums w k D o s =
       let n : ℕ = length sizes in
       let c = ap (λ (l : List ℕ). l ++ drop n (b .counts)) (D .counts-are) ∙ append-assoc (D .division) (replicate (n - length (D .division)) 0) (drop n (b .counts)) in
@@ -72,17 +74,17 @@ module _ (limit : AvailableSpace) (gap : Float) (minimum : ℕ) (sizes : List Fl
       record { division = D .division; balanced = D .balanced; lines-are = D .lines; cells = rw (c, x, y) }
 
   -- and then the rest of the named work cells is cleared
-  pub divides : (b a : Lent) (r : ℕ) (work : List ℕ) (sums : List Float) → Searched limit gap minimum sizes b r a
-      → work ≡ cleared (length sizes * length sizes) (length sizes * length sizes + 3 * length sizes) (a .work)
+  pub divides : (b a : BreakLent) (r : ℕ) (work : List ℕ) (sums : List Float) → Searched limit gap minimum sizes b r a
+      → work ≡ filled 0 (length sizes * length sizes) (length sizes * length sizes + 3 * length sizes) (a .work)
       → sums ≡ filled (ofBits binary64 0) (length sizes) (3 * length sizes) (a .sums)
-      → Divides limit gap minimum sizes b r (lent (a .counts) work sums)
+      → Divides limit gap minimum sizes b r (breakLent (a .counts) work sums)
   divides b a r work sums D w s =
       let n : ℕ = length sizes in
       let k : n * n ≤ n * n + 3 * n = omega arith in
       let j : n ≤ 3 * n = omega arith in
-      let p = ap (λ (l : Lent). l .counts) (D .cells) in
-      let q = w ∙ ap (cleared (n * n) (n * n + 3 * n)) (ap (λ (l : Lent). l .work) (D .cells)) ∙ clear-on 0 (n * n) (n * n + 3 * n) (b .work) k in
-      let t = s ∙ ap (filled (ofBits binary64 0) n (3 * n)) (ap (λ (l : Lent). l .sums) (D .cells)) ∙ clear-on (ofBits binary64 0) n (3 * n) (b .sums) j in
+      let p = ap (λ (l : BreakLent). l .counts) (D .cells) in
+      let q = w ∙ ap (filled 0 (n * n) (n * n + 3 * n)) (ap (λ (l : BreakLent). l .work) (D .cells)) ∙ fill-on 0 (n * n) (n * n + 3 * n) (b .work) k in
+      let t = s ∙ ap (filled (ofBits binary64 0) n (3 * n)) (ap (λ (l : BreakLent). l .sums) (D .cells)) ∙ fill-on (ofBits binary64 0) n (3 * n) (b .sums) j in
       record { division = D .division; balanced = D .balanced; lines-are = D .lines-are; cells = rw (p, q, t) }
 
 -- ---- no more lines than items
@@ -90,7 +92,7 @@ valid-few : (limit : Limit) (gap : ℤ) (xs : List ℤ) (d : List ℕ) → Valid
 valid-few limit gap xs [] v = zero-le
 valid-few limit gap xs (c ∷ d) (l, v) = omega (arith, valid-few limit gap (drop c xs) d v, length-drop c xs, l .positive, l .enough)
 
-pub lines-few : (limit : AvailableSpace) (gap : Float) (minimum : ℕ) (sizes : List Float) (b a : Lent) (lines : ℕ) → Divides limit gap minimum sizes b lines a → lines ≤ length sizes
+pub lines-few : (limit : AvailableSpace) (gap : Float) (minimum : ℕ) (sizes : List Float) (b a : BreakLent) (lines : ℕ) → Divides limit gap minimum sizes b lines a → lines ≤ length sizes
 lines-few limit gap minimum sizes b a lines D =
     omega (
       arith,
@@ -101,7 +103,7 @@ lines-few limit gap minimum sizes b a lines D =
     )
 
 -- ---- the verdict: whether more than 1,024 items have room does not matter
-pub verdict-is : (codes : List Number) (limit : AvailableSpace) (gap : Float) (sizes : List Float) (b : Lent) (room : Bool) → (length sizes ≤ 1024 → room ≡ hasRoom (length sizes) b)
+pub verdict-is : (codes : List Number) (limit : AvailableSpace) (gap : Float) (sizes : List Float) (b : BreakLent) (room : Bool) → (length sizes ≤ 1024 → room ≡ hasRoom (length sizes) b)
     → breakingVerdict codes limit gap sizes room ≡ breakingVerdict codes limit gap sizes (hasRoom (length sizes) b)
 unfolding breakingVerdict
 verdict-is codes limit gap sizes b room h = go (lt-or-ge 1024 (length sizes))
@@ -110,33 +112,33 @@ verdict-is codes limit gap sizes b room h = go (lt-or-ge 1024 (length sizes))
     go (inr p) = ap (breakingVerdict codes limit gap sizes) (h p)
     go (inl p) = simp (lt-ltb 1024 (length sizes) p)
 
-pub given : (codes : List Number) (limit : AvailableSpace) (gap : Float) (sizes : List Float) (b : Lent) → balancedVerdict codes limit gap sizes b ≡ Passed → Breakable limit gap sizes × Roomy (length sizes) b
+pub given : (codes : List Number) (limit : AvailableSpace) (gap : Float) (sizes : List Float) (b : BreakLent) → balancedVerdict codes limit gap sizes b ≡ Passed → Breakable limit gap sizes × Roomy (length sizes) b
 given codes limit gap sizes b e =
     let p = breakable codes limit gap sizes (hasRoom (length sizes) b) e in
     (p .0, room-of (length sizes) b (subst T (sym (p .1)) tt))
 
 -- ---- the contract, by the verdict
-module _ (limit : AvailableSpace) (gap : Float) (minimum : ℕ) (sizes : List Float) (b : Lent) where
-  pub divides-one : (k j : ℕ) (a c : Lent) → Divides limit gap minimum sizes b k a → Divides limit gap minimum sizes b j c → (k ≡ j) × (a ≡ c)
+module _ (limit : AvailableSpace) (gap : Float) (minimum : ℕ) (sizes : List Float) (b : BreakLent) where
+  pub divides-one : (k j : ℕ) (a c : BreakLent) → Divides limit gap minimum sizes b k a → Divides limit gap minimum sizes b j c → (k ≡ j) × (a ≡ c)
   divides-one k j a c p q =
       let d : p .division ≡ q .division = balanced-one (limitOf limit) (sixtyFourths gap) (units sizes) minimum (p .division) (q .division) (p .balanced) (q .balanced) in
       (p .lines-are ∙ ap length d ∙ sym (q .lines-are), p .cells ∙ ap (λ (l : List ℕ). worked (length sizes) l b) d ∙ sym (q .cells))
 
-module _ (codes : List Number) (limit : AvailableSpace) (gap : Float) (minimum : ℕ) (sizes : List Float) (b : Lent) where
+module _ (codes : List Number) (limit : AvailableSpace) (gap : Float) (minimum : ℕ) (sizes : List Float) (b : BreakLent) where
   pub call-refused : (why : Refusal) → balancedVerdict codes limit gap sizes b ≡ verdict.Refused why → BalancedCall codes limit gap minimum sizes b (answer.Refused why) b
   call-refused why e = record {
     refused = λ other f. (ap answer.Refused (same-why e f), refl);
     accepted = λ f. absurd (not-both f e);
   }
 
-  pub call-accepted : (lines : ℕ) (a : Lent) → balancedVerdict codes limit gap sizes b ≡ Passed → Divides limit gap minimum sizes b lines a → BalancedCall codes limit gap minimum sizes b (Done lines 0) a
+  pub call-accepted : (lines : ℕ) (a : BreakLent) → balancedVerdict codes limit gap sizes b ≡ Passed → Divides limit gap minimum sizes b lines a → BalancedCall codes limit gap minimum sizes b (Done lines 0) a
   call-accepted lines a e D = record {
     refused = λ why f. absurd (not-both e f);
     accepted = λ _. (lines, refl, D);
   }
 
   -- ANY TWO RESULTS THAT THE CONTRACT ALLOWS ARE EQUAL
-  pub no-choice : (r s : Answer) (a c : Lent) → BalancedCall codes limit gap minimum sizes b r a → BalancedCall codes limit gap minimum sizes b s c → (r ≡ s) × (a ≡ c)
+  pub no-choice : (r s : Answer) (a c : BreakLent) → BalancedCall codes limit gap minimum sizes b r a → BalancedCall codes limit gap minimum sizes b s c → (r ≡ s) × (a ≡ c)
   no-choice r s a c p q = go (balancedVerdict codes limit gap sizes b) refl
     where
       go : (v : Verdict) → balancedVerdict codes limit gap sizes b ≡ v → (r ≡ s) × (a ≡ c)

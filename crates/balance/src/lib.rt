@@ -3,18 +3,18 @@ ghost use mathlib.Core.Path.{_≡_};
 ghost use mathlib.Core.List.{[]};
 ghost use Prim.Native.Nat.{_≤_};
 ghost use lib.ListN.{length};
-ghost use lib.Ieee.{binary64, ofBits};
-ghost use Rattle.breaking.specs.Steps.{Breakable, filled};
-ghost use Rattle.balance.specs.Calls.{lent, roomFor, Divides, BalancedCall};
-ghost use Rattle.balance.specs.Parts.{Roomy, lists, Room, Searched};
-use breaking::check_breaking;
-use breaking::clear_counts;
-use breaklimit::AvailableSpace;
-use division::divide;
-use refusal::Answer;
-use refusal::Verdict;
-use refusal::no_mark;
-use refusal::shapes::has_work_room;
+ghost use Rattle.break_greedy.specs.Steps.{Breakable};
+ghost use Rattle.balance.specs.Calls.{breakLent, roomFor, Divides, BalancedCall};
+ghost use Rattle.balance.specs.Parts.{Roomy, searchLists, SearchRoom, Searched};
+use balance_division::divide;
+use break_greedy::check_breaking;
+use checks::Answer;
+use checks::Verdict;
+use checks::no_mark;
+use checks::shapes::has_work_room;
+use keywords::AvailableSpace;
+use lists::clear_f64;
+use lists::clear_u32;
 
 // The search in lists that may have more cells than it takes: the first n of each are lent, and n * n of opts.
 fn divide_within(
@@ -31,8 +31,8 @@ fn divide_within(
     prev: &mut [f64],
     cur: &mut [f64],
 ) -> usize
-    requires { ⌜ Breakable limit gap (now sizes) × Room (length (now sizes)) (lists (now counts) (now opts) (now fit) (now greedy) (now reach) (now sums) (now prev) (now cur)) ⌝ }
-    ensures { λ r. ⌜ Searched limit gap minimum (now (sizes .entry)) (lent (now (counts .entry)) (now (opts .entry)) (now (sums .entry))) r (lent (now (counts .exit)) (now (opts .exit)) (now (sums .exit))) ⌝ }
+    requires { ⌜ Breakable limit gap (now sizes) × SearchRoom (length (now sizes)) (searchLists (now counts) (now opts) (now fit) (now greedy) (now reach) (now sums) (now prev) (now cur)) ⌝ }
+    ensures { λ r. ⌜ Searched limit gap minimum (now (sizes .entry)) (breakLent (now (counts .entry)) (now (opts .entry)) (now (sums .entry))) r (breakLent (now (counts .exit)) (now (opts .exit)) (now (sums .exit))) ⌝ }
 {
     let n = sizes.len();
     let cells = n * n;
@@ -63,8 +63,8 @@ fn divide_few(
     work: &mut [u32],
     sums: &mut [f64],
 ) -> usize
-    requires { ⌜ Breakable limit gap (now sizes) × (Roomy (length (now sizes)) (lent (now counts) (now work) (now sums))) × (length (now sizes) ≤ 256) ⌝ }
-    ensures { λ r. ⌜ Searched limit gap minimum (now (sizes .entry)) (lent (now (counts .entry)) (now (work .entry)) (now (sums .entry))) r (lent (now (counts .exit)) (now (work .exit)) (now (sums .exit))) ⌝ }
+    requires { ⌜ Breakable limit gap (now sizes) × (Roomy (length (now sizes)) (breakLent (now counts) (now work) (now sums))) × (length (now sizes) ≤ 256) ⌝ }
+    ensures { λ r. ⌜ Searched limit gap minimum (now (sizes .entry)) (breakLent (now (counts .entry)) (now (work .entry)) (now (sums .entry))) r (breakLent (now (counts .exit)) (now (work .exit)) (now (sums .exit))) ⌝ }
 {
     let mut fit = [0u32; 256];
     let mut greedy = [0u32; 256];
@@ -96,8 +96,8 @@ fn divide_many(
     work: &mut [u32],
     sums: &mut [f64],
 ) -> usize
-    requires { ⌜ Breakable limit gap (now sizes) × Roomy (length (now sizes)) (lent (now counts) (now work) (now sums)) ⌝ }
-    ensures { λ r. ⌜ Searched limit gap minimum (now (sizes .entry)) (lent (now (counts .entry)) (now (work .entry)) (now (sums .entry))) r (lent (now (counts .exit)) (now (work .exit)) (now (sums .exit))) ⌝ }
+    requires { ⌜ Breakable limit gap (now sizes) × Roomy (length (now sizes)) (breakLent (now counts) (now work) (now sums)) ⌝ }
+    ensures { λ r. ⌜ Searched limit gap minimum (now (sizes .entry)) (breakLent (now (counts .entry)) (now (work .entry)) (now (sums .entry))) r (breakLent (now (counts .exit)) (now (work .exit)) (now (sums .exit))) ⌝ }
 {
     let mut fit = [0u32; 1024];
     let mut greedy = [0u32; 1024];
@@ -129,24 +129,13 @@ fn search(
     work: &mut [u32],
     sums: &mut [f64],
 ) -> usize
-    requires { ⌜ Breakable limit gap (now sizes) × Roomy (length (now sizes)) (lent (now counts) (now work) (now sums)) ⌝ }
-    ensures { λ r. ⌜ Searched limit gap minimum (now (sizes .entry)) (lent (now (counts .entry)) (now (work .entry)) (now (sums .entry))) r (lent (now (counts .exit)) (now (work .exit)) (now (sums .exit))) ⌝ }
+    requires { ⌜ Breakable limit gap (now sizes) × Roomy (length (now sizes)) (breakLent (now counts) (now work) (now sums)) ⌝ }
+    ensures { λ r. ⌜ Searched limit gap minimum (now (sizes .entry)) (breakLent (now (counts .entry)) (now (work .entry)) (now (sums .entry))) r (breakLent (now (counts .exit)) (now (work .exit)) (now (sums .exit))) ⌝ }
 {
     if sizes.len() <= 256 {
         return divide_few(limit, gap, minimum, sizes, counts, work, sums);
     }
     divide_many(limit, gap, minimum, sizes, counts, work, sums)
-}
-
-fn clear_sums(sums: &mut [f64], from: usize, to: usize)
-    requires { ⌜ (from ≤ to) × (to ≤ length (now sums)) ⌝ }
-    ensures { λ _. ⌜ now (sums .exit) ≡ filled (ofBits binary64 0) from to (now (sums .entry)) ⌝ }
-{
-    let mut i = from;
-    while i < to {
-        sums[i] = 0.0;
-        i += 1;
-    }
 }
 
 // The balanced division of accepted sizes, and all named work cells 0. No entry point.
@@ -159,13 +148,13 @@ pub fn divide_lent(
     work: &mut [u32],
     sums: &mut [f64],
 ) -> usize
-    requires { ⌜ Breakable limit gap (now sizes) × Roomy (length (now sizes)) (lent (now counts) (now work) (now sums)) ⌝ }
-    ensures { λ r. ⌜ Divides limit gap minimum (now (sizes .entry)) (lent (now (counts .entry)) (now (work .entry)) (now (sums .entry))) r (lent (now (counts .exit)) (now (work .exit)) (now (sums .exit))) ⌝ }
+    requires { ⌜ Breakable limit gap (now sizes) × Roomy (length (now sizes)) (breakLent (now counts) (now work) (now sums)) ⌝ }
+    ensures { λ r. ⌜ Divides limit gap minimum (now (sizes .entry)) (breakLent (now (counts .entry)) (now (work .entry)) (now (sums .entry))) r (breakLent (now (counts .exit)) (now (work .exit)) (now (sums .exit))) ⌝ }
 {
     let n = sizes.len();
     let lines = search(limit, gap, minimum, sizes, counts, work, sums);
-    clear_counts(work, n * n, n * n + 3 * n);
-    clear_sums(sums, n, 3 * n);
+    clear_u32(work, n * n, n * n + 3 * n);
+    clear_f64(sums, n, 3 * n);
     lines
 }
 
@@ -193,7 +182,7 @@ pub fn balanced(
     work: &mut [u32],
     sums: &mut [f64],
 ) -> Answer
-    ensures { λ r. ⌜ BalancedCall [] limit gap minimum (now (sizes .entry)) (lent (now (counts .entry)) (now (work .entry)) (now (sums .entry))) r (lent (now (counts .exit)) (now (work .exit)) (now (sums .exit))) ⌝ }
+    ensures { λ r. ⌜ BalancedCall [] limit gap minimum (now (sizes .entry)) (breakLent (now (counts .entry)) (now (work .entry)) (now (sums .entry))) r (breakLent (now (counts .exit)) (now (work .exit)) (now (sums .exit))) ⌝ }
 {
     let room = has_room(sizes.len(), counts.len(), work.len(), sums.len());
     match check_breaking(no_mark(), limit, gap, sizes, room) {

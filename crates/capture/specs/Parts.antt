@@ -4,15 +4,15 @@ use Prim.Native.Nat.{ℕ}
 use lib.Dec.{ltb}
 use lib.ListN.{take}
 use lib.Ieee.{Float}
-use Rattle.refusal.specs.declared.Answer.{Answer}
-use Rattle.refusal.specs.declared.Answer.the-variants.{Done}
-use Rattle.refusal.specs.declared.Answer.the-variants as answer
-use Rattle.format.specs.Reading.{asRead}
-use Rattle.feeding.specs.declared.Captured.{Captured}
-use Rattle.feeding.specs.declared.Captured.the-variants.{Whole}
-use Rattle.feeding.specs.declared.Captured.the-variants as captured
-use Rattle.spelling.specs.declared.Reply.{Reply}
-use Rattle.spelling.specs.declared.Reply.the-variants.{Lines, Refused, Broken}
+use Rattle.checks.specs.declared.Answer.{Answer}
+use Rattle.checks.specs.declared.Answer.the-variants.{Done}
+use Rattle.checks.specs.declared.Answer.the-variants as answer
+use Rattle.capture_format.specs.Reading.{asRead}
+use Rattle.capture_feed.specs.declared.Captured.{Captured}
+use Rattle.capture_feed.specs.declared.Captured.the-variants.{Whole}
+use Rattle.capture_feed.specs.declared.Captured.the-variants as captured
+use Rattle.capture_text.specs.declared.Reply.{Reply}
+use Rattle.capture_text.specs.declared.Reply.the-variants.{Lines, Refused, Broken}
 use Rattle.capture.specs.Answer.{Refuses, ByCount}
 
 abbrev pub replyOf : Answer → Reply

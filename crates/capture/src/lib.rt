@@ -3,20 +3,20 @@ ghost use mathlib.Core.Path.{_≡_};
 ghost use Prim.Native.Nat.{_≤_};
 ghost use lib.ListN.{length, take};
 ghost use lib.Dec.{ltb};
-ghost use Rattle.format.specs.Reading.{reading, asRead};
-ghost use Rattle.feeding.specs.Machine.{finished};
-ghost use Rattle.capture.specs.Answer.{verdictOf, ByVerdict, ByCount, Answered};
+ghost use Rattle.capture_format.specs.Reading.{reading, asRead};
+ghost use Rattle.capture_feed.specs.Machine.{finished};
+ghost use Rattle.capture.specs.Answer.{captureVerdict, ByVerdict, ByCount, CaptureAnswered};
 ghost use Rattle.capture.specs.Parts.{replyOf, AnsweredTo};
-use feeding::Captured;
-use feeding::Reader;
-use feeding::feed;
-use feeding::finish;
-use feeding::start;
-use format::Head;
-use format::as_read;
-use refusal::Answer;
-use refusal::Refusal;
-use spelling::Reply;
+use capture_feed::Captured;
+use capture_feed::Reader;
+use capture_feed::feed;
+use capture_feed::finish;
+use capture_feed::start;
+use capture_format::Head;
+use capture_format::as_read;
+use capture_text::Reply;
+use checks::Answer;
+use checks::Refusal;
 
 fn reply_of(a: Answer) -> Reply
     ensures { λ r. ⌜ r ≡ replyOf a ⌝ }
@@ -30,7 +30,7 @@ fn reply_of(a: Answer) -> Reply
 // Balanced breaking, with the room to work in.
 fn break_items(head: Head, sizes: &[f32], counts: &mut [u32]) -> Reply
     requires { ⌜ (length (now sizes) ≤ 64) × (length (now counts) ≡ 64) ⌝ }
-    ensures { λ r. ⌜ ByVerdict (verdictOf head (now (sizes .entry))) head (now (sizes .entry)) (now (counts .entry)) r (now (counts .exit)) ⌝ }
+    ensures { λ r. ⌜ ByVerdict (captureVerdict head (now (sizes .entry))) head (now (sizes .entry)) (now (counts .entry)) r (now (counts .exit)) ⌝ }
 {
     let limit = head.limit;
     let mut work = [0u32; 4288];
@@ -72,7 +72,7 @@ pub fn answer(r: Reader, sizes: &[f32], counts: &mut [u32]) -> Reply
 
 // Reads a whole capture to its answer. Nothing is asked of the bytes.
 pub fn read(bytes: &[u8], counts: &mut [u32; 64]) -> Reply
-    ensures { λ r. ⌜ Answered (reading asRead (now (bytes .entry))) (now (counts .entry)) r (now (counts .exit)) ⌝ }
+    ensures { λ r. ⌜ CaptureAnswered (reading asRead (now (bytes .entry))) (now (counts .entry)) r (now (counts .exit)) ⌝ }
     ensures { λ r. ⌜ length (now (counts .exit)) ≡ 64 ⌝ }
 {
     let mut sizes = [0.0f32; 64];

@@ -1,2 +1,5 @@
+pub mod LaidLaws
+pub mod LineAlone
+pub mod OneLaid
 pub mod AcceptLaws
 pub mod OnePass

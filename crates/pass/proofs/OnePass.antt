@@ -5,16 +5,16 @@ use mathlib.Core.List.{List}
 use Prim.Native.Nat.{ℕ}
 use lib.ListN.{length}
 use lib.Ieee.{Float}
-use Rattle.refusal.specs.Domain.{checked, shape, summed}
-use Rattle.refusal.proofs.Verdicts.{not-both, same-why}
-use Rattle.refusal.specs.declared.Verdict.the-variants as verdict
-use Rattle.refusal.proofs.Checks.{then-passed}
-use Rattle.container.specs.declared.Container.{Container}
-use Rattle.container.specs.Container.{breakMode}
-use Rattle.passchecks.specs.Checks.{passInput, passSum, passRoom, passVerdict}
-use Rattle.passchecks.proofs.Rooms.{roomy-of}
-use Rattle.laying.specs.Laid.{Lent}
-use Rattle.laying.proofs.OneLaid.{laid-one}
+use Rattle.checks.specs.Domain.{checked, shape, summed}
+use Rattle.checks.proofs.Verdicts.{not-both, same-why}
+use Rattle.checks.specs.declared.Verdict.the-variants as verdict
+use Rattle.checks.proofs.Checks.{then-passed}
+use Rattle.pass_container.specs.declared.Container.{Container}
+use Rattle.pass_container.specs.Container.{breakMode}
+use Rattle.pass_checks.specs.Checks.{passInput, passSum, passRoom, passVerdict}
+use Rattle.pass_checks.proofs.Rooms.{roomy-of}
+use Rattle.pass.specs.Laid.{PassLent}
+use Rattle.pass.proofs.OneLaid.{laid-one}
 use Rattle.pass.specs.declared.PassAnswer.{PassAnswer}
 use Rattle.pass.specs.declared.PassAnswer.the-variants.{Done, Refused}
 use Rattle.pass.specs.Pass.{PassCall}
@@ -27,7 +27,7 @@ unfolding passVerdict
 passed-shape c n x codes room e = then-passed (shape n room) (checked (passInput c n x codes) (summed (passSum c n x codes))) e .0
 
 -- ANY TWO RESULTS THAT THE CONTRACT ALLOWS ARE EQUAL
-pub one-pass : (c : Container) (n : ℕ) (x : List Float) (codes : List ℕ) (b : Lent) (r s : PassAnswer) (a d : Lent) → PassCall c n x codes b r a → PassCall c n x codes b s d → (r ≡ s) × (a ≡ d)
+pub one-pass : (c : Container) (n : ℕ) (x : List Float) (codes : List ℕ) (b : PassLent) (r s : PassAnswer) (a d : PassLent) → PassCall c n x codes b r a → PassCall c n x codes b s d → (r ≡ s) × (a ≡ d)
 one-pass c n x codes b (Refused w) (Refused z) a d p q = (ap Refused (same-why (p .0) (q .0)), p .1 ∙ sym (q .1))
 one-pass c n x codes b (Refused w) (Done k sum inner) a d p q = absurd (not-both (q .0) (p .0))
 one-pass c n x codes b (Done k sum inner) (Refused w) a d p q = absurd (not-both (p .0) (q .0))

@@ -1,2 +1,5 @@
+pub mod Laid
+pub mod Stages
+pub mod Alone
 pub mod Pass
 pub mod Checked

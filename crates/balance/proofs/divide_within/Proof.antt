@@ -5,20 +5,20 @@ use native.Mathlib.Omega.{arith}
 use lib.ListN.{length}
 use lib.Seq.{length-take-le}
 use borrow.Author.Needs.{needs}
-use Rattle.balance.specs.Calls.{lent}
-use Rattle.balance.specs.Parts.{Lists, lists, Room}
-use Rattle.refusal.proofs.Squares.{square-small}
+use Rattle.balance.specs.Calls.{breakLent}
+use Rattle.balance.specs.Parts.{SearchLists, searchLists, SearchRoom}
+use Rattle.checks.proofs.Squares.{square-small}
 use Rattle.balance.proofs.Call.{searches}
 use Rattle.balance.proofs.divide_within.Statement.{statement}
 use Rattle.balance.proofs.divide_within.Tie as tie
 
 -- the lists, and the room that they have
-abbrev before : tie.Start → Lists
+abbrev before : tie.Start → SearchLists
 before st =
     let a = st .args in
-    lists (a .counts .now) (a .opts .now) (a .fit .now) (a .greedy .now) (a .reach .now) (a .sums .now) (a .prev .now) (a .cur .now)
+    searchLists (a .counts .now) (a .opts .now) (a .fit .now) (a .greedy .now) (a .reach .now) (a .sums .now) (a .prev .now) (a .cur .now)
 
-room : (st : tie.Start) → Room (length (st .args .sizes .now)) (before st)
+room : (st : tie.Start) → SearchRoom (length (st .args .sizes .now)) (before st)
 room st = st .pre .1
 
 mul-cells : tie.Need-mul-cells
@@ -91,30 +91,6 @@ divide-requires c κs =
       ),
     )
 
-same-length : tie.Need-same-length
-same-length c = search needs
-
-same-length-2 : tie.Need-same-length-2
-same-length-2 c = search needs
-
-same-length-3 : tie.Need-same-length-3
-same-length-3 c = search needs
-
-same-length-4 : tie.Need-same-length-4
-same-length-4 c = search needs
-
-same-length-5 : tie.Need-same-length-5
-same-length-5 c = search needs
-
-same-length-6 : tie.Need-same-length-6
-same-length-6 c = search needs
-
-same-length-7 : tie.Need-same-length-7
-same-length-7 c = search needs
-
-same-length-8 : tie.Need-same-length-8
-same-length-8 c = search needs
-
 returns : tie.Need-returns
 returns c =
     let st = c .before .before .before .before .before .before .before .before .before .before .before .before .before .before .before .before .before .before .before .before .before .before .before .before .before .before .before .before .before .before .before .before .before .before in
@@ -122,38 +98,15 @@ returns c =
     let d = c .before .before .before .before .before .before .before .before .before .before .before .before .before .before .before .before .divide in
     let e = d .ensures .1 in
     let r = room st in
-    searches (a .limit) (a .gap) (a .minimum) (a .sizes .now) (lent (a .counts .now) (a .opts .now) (a .sums .now)) (d .result)
+    searches (a .limit) (a .gap) (a .minimum) (a .sizes .now) (breakLent (a .counts .now) (a .opts .now) (a .sums .now)) (d .result)
     (d .last .1 .1 .1 .1 .0) (d .last .1 .1 .1 .1 .1 .0) (d .last .1 .1 .1 .1 .1 .1 .1 .1 .1 .0)
-    (r .opts) (r .sums) (d .ensures .0) (e .0) (e .4)
+    (r .opts) (r .sums) (d .ensures .0) (e .0) (e .1)
 
 pub divide-within-spec : {M : Type 1} → statement M
 divide-within-spec =
-    tie.close
-    (tie.spec
-    mul-cells
-    slice-relend-prefix-divide
-    slice-aggregate-divide
-    slice-relend-prefix-divide-2
-    slice-aggregate-divide-2
-    slice-relend-prefix-divide-3
-    slice-aggregate-divide-3
-    slice-relend-prefix-divide-4
-    slice-aggregate-divide-4
-    slice-relend-prefix-divide-5
-    slice-aggregate-divide-5
-    slice-relend-prefix-divide-6
-    slice-aggregate-divide-6
-    slice-relend-prefix-divide-7
-    slice-aggregate-divide-7
-    slice-relend-prefix-divide-8
-    slice-aggregate-divide-8
-    divide-requires
-    same-length
-    same-length-2
-    same-length-3
-    same-length-4
-    same-length-5
-    same-length-6
-    same-length-7
-    same-length-8
-    returns)
+    tie.close (tie.spec mul-cells slice-relend-prefix-divide slice-aggregate-divide slice-relend-prefix-divide-2
+    slice-aggregate-divide-2 slice-relend-prefix-divide-3 slice-aggregate-divide-3 slice-relend-prefix-divide-4
+    slice-aggregate-divide-4 slice-relend-prefix-divide-5 slice-aggregate-divide-5 slice-relend-prefix-divide-6
+    slice-aggregate-divide-6 slice-relend-prefix-divide-7 slice-aggregate-divide-7 slice-relend-prefix-divide-8
+    slice-aggregate-divide-8 divide-requires (λ c. search needs) (λ c. search needs) (λ c. search needs)
+    (λ c. search needs) (λ c. search needs) (λ c. search needs) (λ c. search needs) (λ c. search needs) returns)

@@ -11,11 +11,9 @@ returns c = λ h. absurd (omega (arith, c .if1 .taken))
 returns-2 : tie.Need-returns-2
 returns-2 c = λ _. simp (lt-leb _ _ (c .if2 .taken))
 
-has-work-room-requires : tie.Need-has-work-room-requires
-has-work-room-requires c κs = search needs
-
 returns-3 : tie.Need-returns-3
 returns-3 c = λ _. simp (le-leb _ _ (c .before .if2 .left)) (c .has-work-room .ensures)
 
 pub has-room-spec : {M : Type 1} → statement M
-has-room-spec = tie.close (tie.spec returns returns-2 has-work-room-requires returns-3)
+has-room-spec =
+    tie.close (tie.spec returns returns-2 (λ c κs. search needs) returns-3)

@@ -20,13 +20,9 @@ break-items-requires c κs =
     let a = c .before .before .before .before .before .args in
     (omega (arith, length-take (a .items) (now (a .sizes))), c .before .before .before .before .before .pre .1)
 
-same-length : tie.Need-same-length
-same-length c = search needs
-
 returns-2 : tie.Need-returns-2
 returns-2 c = rw (le-ltb 64 (c .before .before .before .before .before .before .before .before .args .items) (omega arith)) (c .before .before .break-items .ensures)
 
 pub answer-items-spec : {M : Type 1} → statement M
 answer-items-spec =
-    tie.close
-    (tie.spec returns slice-aggregate-break-items break-items-requires same-length returns-2)
+    tie.close (tie.spec returns slice-aggregate-break-items break-items-requires (λ c. search needs) returns-2)

@@ -4,19 +4,16 @@ use native.Mathlib.Omega.{arith}
 use lib.ListN.{length, replicate}
 use lib.Ieee.{binary32, ofBits}
 use denote.Ref.{now}
-use Rattle.feeding.specs.Machine.{withSizes, fed, Ready}
-use Rattle.feeding.specs.declared.Reader.{Reader}
-use Rattle.feeding.proofs.Whole.{started-sound}
+use Rattle.capture_feed.specs.Machine.{withSizes, fed, ReaderReady}
+use Rattle.capture_feed.specs.declared.Reader.{Reader}
+use Rattle.capture_feed.proofs.Whole.{started-sound}
 use Rattle.capture.proofs.Answers.{fed-full, reads}
 use borrow.Author.Needs.{needs}
 use Rattle.capture.proofs.read.Statement.{statement}
 use Rattle.capture.proofs.read.Tie as tie
 
-start-requires : tie.Need-start-requires
-start-requires c κs = search needs
-
 feed-requires : tie.Need-feed-requires
-feed-requires c κs = subst (λ (r : Reader). Ready r (length (now (c .before .before .before .args .bytes)))) (sym (c .before .start .ensures)) (record { sound = started-sound; room = omega arith })
+feed-requires c κs = subst (λ (r : Reader). ReaderReady r (length (now (c .before .before .before .args .bytes)))) (sym (c .before .start .ensures)) (record { sound = started-sound; room = omega arith })
 
 slice-aggregate-answer : tie.Need-slice-aggregate-answer
 slice-aggregate-answer c = sym (fed-full _ _ refl (c .before .feed .ensures))
@@ -39,5 +36,4 @@ returns c =
 
 pub read-spec : {M : Type 1} → statement M
 read-spec =
-    tie.close
-    (tie.spec start-requires feed-requires slice-aggregate-answer answer-requires returns)
+    tie.close (tie.spec (λ c κs. search needs) feed-requires slice-aggregate-answer answer-requires returns)

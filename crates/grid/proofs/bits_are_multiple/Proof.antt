@@ -14,9 +14,6 @@ use Rattle.grid.proofs.Fields.{lead-some, lead-place, power-in, power-r
 use Rattle.grid.proofs.bits_are_multiple.Statement.{statement}
 use Rattle.grid.proofs.bits_are_multiple.Tie as tie
 
-with-lead-requires : tie.Need-with-lead-requires
-with-lead-requires c κs = search needs
-
 lowest-digit-requires : tie.Need-lowest-digit-requires
 lowest-digit-requires c κs = lead-some (c .before .args .b) (c .with-lead .result) (c .with-lead .ensures)
 
@@ -63,4 +60,6 @@ returns c =
     answer (c .before .before .before .args .b) (w .result) (c .before .lowest-digit .result) (w .ensures) (c .before .lowest-digit .ensures)
 
 pub bits-are-multiple-spec : {M : Type 1} → statement M
-bits-are-multiple-spec = tie.close (tie.spec with-lead-requires lowest-digit-requires int-to-float-power float-to-bits-result add-result returns)
+bits-are-multiple-spec =
+    tie.close (tie.spec (λ c κs. search needs) lowest-digit-requires int-to-float-power float-to-bits-result add-result
+    returns)

@@ -6,14 +6,9 @@ use Rattle.grid.proofs.Lowest.{lowest-and}
 use Rattle.grid.proofs.lowest_digit.Statement.{statement}
 use Rattle.grid.proofs.lowest_digit.Tie as tie
 
-sub-result : tie.Need-sub-result
-sub-result c = search needs
-
-add-result : tie.Need-add-result
-add-result c = search needs
-
 returns : tie.Need-returns
 returns c = let q = c .args .q in lowest-and 32 q (4294967295 - q + 1) (c .pre) (omega arith) (omega (arith, c .good .0 .1))
 
 pub lowest-digit-spec : {M : Type 1} → statement M
-lowest-digit-spec = tie.close (tie.spec sub-result add-result returns)
+lowest-digit-spec =
+    tie.close (tie.spec (λ c. search needs) (λ c. search needs) returns)

@@ -34,4 +34,5 @@ returns-2 c =
     (ap isNan bits ∙ least .0, λ h. (ap finite bits, ap onGrid bits ∙ least .1 ∙ sym (far-grid x (passes _ (c .before .good .0 .1)) h (sym (ap (lt x) bits) ∙ c .if1 .left))))
 
 pub settled-spec : {M : Type 1} → statement M
-settled-spec = tie.close (tie.spec returns returns-2)
+settled-spec =
+    tie.close (tie.spec returns returns-2)

@@ -7,4 +7,5 @@ returns : tie.Need-returns
 returns c = with-lead (c .args .b)
 
 pub with-lead-spec : {M : Type 1} → statement M
-with-lead-spec = tie.close (tie.spec returns)
+with-lead-spec =
+    tie.close (tie.spec returns)

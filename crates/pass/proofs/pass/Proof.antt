@@ -2,22 +2,13 @@
 use mathlib.Core.Path.{refl, sym, _∙_}
 use lib.ListN.{length}
 use denote.Ref.{now}
-use Rattle.container.specs.Container.{breakMode}
-use Rattle.passchecks.specs.Checks.{passRoom}
-use Rattle.laying.specs.Laid.{lent}
+use Rattle.pass_container.specs.Container.{breakMode}
+use Rattle.pass_checks.specs.Checks.{passRoom}
+use Rattle.pass.specs.Laid.{passLent}
 use Rattle.pass.proofs.AcceptLaws.{refused-so, passed-so, sound-so, answered-as}
 use borrow.Author.Needs.{needs}
 use Rattle.pass.proofs.pass.Statement.{statement}
 use Rattle.pass.proofs.pass.Tie as tie
-
-check-pass-requires : tie.Need-check-pass-requires
-check-pass-requires c κs = search needs
-
-enum-known-v : tie.Need-enum-known-v
-enum-known-v c = search needs
-
-enum-told : tie.Need-enum-told
-enum-told c = search needs
 
 pass-checked-requires : tie.Need-pass-checked-requires
 pass-checked-requires c κs = let a = c .before .before .before .before .before .before .before .before .before .before .before .before .before .before .before .before .before .before .args in
@@ -52,23 +43,10 @@ same-length-7 c = c .before .before .before .before .before .before .before .bef
 returns-2 : tie.Need-returns-2
 returns-2 c = let a = c .before .before .before .before .before .before .before .before .before .before .before .before .before .before .before .before .before .before .before .before .before .before .before .before .before .before .before .before .before .before .before .before .args in
     let f = c .before .before .before .before .before .before .before .before .before .before .before .before .before .pass-checked in
-    answered-as (a .c) (a .n) (now (a .numbers)) (now (a .codes)) (lent (now (a .placed)) (now (a .lines)) (now (a .counts)) (now (a .rounds)) (now (a .free)) (now (a .work)) (now (a .sums))) (f .result) (lent (f .last .1 .1 .1 .1 .0) (f .last .1 .1 .1 .1 .1 .0) (f .last .1 .1 .1 .1 .1 .1 .0) (f .last .1 .1 .1 .1 .1 .1 .1 .0) (f .last .1 .1 .1 .1 .1 .1 .1 .1 .0) (f .last .1 .1 .1 .1 .1 .1 .1 .1 .1 .0) (f .last .1 .1 .1 .1 .1 .1 .1 .1 .1 .1 .0))
+    answered-as (a .c) (a .n) (now (a .numbers)) (now (a .codes)) (passLent (now (a .placed)) (now (a .lines)) (now (a .counts)) (now (a .rounds)) (now (a .free)) (now (a .work)) (now (a .sums))) (f .result) (passLent (f .last .1 .1 .1 .1 .0) (f .last .1 .1 .1 .1 .1 .0) (f .last .1 .1 .1 .1 .1 .1 .0) (f .last .1 .1 .1 .1 .1 .1 .1 .0) (f .last .1 .1 .1 .1 .1 .1 .1 .1 .0) (f .last .1 .1 .1 .1 .1 .1 .1 .1 .1 .0) (f .last .1 .1 .1 .1 .1 .1 .1 .1 .1 .1 .0))
     (sym (passed-so (a .c) (a .n) (now (a .numbers)) (now (a .codes)) (passRoom (a .n) (breakMode (a .c)) (length (now (a .numbers))) (length (now (a .codes))) (length (now (a .placed))) (length (now (a .lines))) (length (now (a .counts))) (length (now (a .rounds))) (length (now (a .free))) (length (now (a .work))) (length (now (a .sums)))) (sym (c .before .before .before .before .before .before .before .before .before .before .before .before .before .before .before .before .before .before .before .before .before .before .before .check-pass .ensures) ∙ c .before .before .before .before .before .before .before .before .before .before .before .before .before .before .before .before .before .before .before .before .before .enum-told .given .1))) (f .ensures)
 
 pub pass-spec : {M : Type 1} → statement M
 pass-spec =
-    tie.close
-    (tie.spec
-    check-pass-requires
-    enum-known-v
-    enum-told
-    pass-checked-requires
-    returns
-    same-length
-    same-length-2
-    same-length-3
-    same-length-4
-    same-length-5
-    same-length-6
-    same-length-7
-    returns-2)
+    tie.close (tie.spec (λ c κs. search needs) (λ c. search needs) (λ c. search needs) pass-checked-requires returns
+    same-length same-length-2 same-length-3 same-length-4 same-length-5 same-length-6 same-length-7 returns-2)

@@ -8,19 +8,16 @@ use denote.Ref.{now}
 use Rattle.grid.specs.Floats.{nought}
 use Rattle.grid.specs.Grid.{cleaned}
 use Rattle.grid.specs.Values.{Length}
-use Rattle.refusal.specs.Domain.{summed}
-use Rattle.refusal.proofs.Checks.{summed-passed}
-use Rattle.flexing.specs.Flex.{outerSum}
-use Rattle.itemtable.specs.Table.{Wide, itemsIn}
-use Rattle.passchecks.specs.Checks.{passSum}
-use Rattle.laying.proofs.LaidLaws.{items-in}
+use Rattle.checks.specs.Domain.{summed}
+use Rattle.checks.proofs.Checks.{summed-passed}
+use Rattle.flex.specs.Flex.{outerSum}
+use Rattle.flex_table.specs.Table.{Wide, itemsIn}
+use Rattle.pass_checks.specs.Checks.{passSum}
+use Rattle.pass.proofs.LaidLaws.{items-in}
 use Rattle.pass.proofs.AcceptLaws.{wide-of, listed-of, gap-is, table-is, accepted-of}
 use borrow.Author.Needs.{needs}
 use Rattle.pass.proofs.pass_checked.Statement.{statement}
 use Rattle.pass.proofs.pass_checked.Tie as tie
-
-slice-aggregate-read-main : tie.Need-slice-aggregate-read-main
-slice-aggregate-read-main c = search needs
 
 read-main-requires : tie.Need-read-main-requires
 read-main-requires c κs = let l = listed-of (c .before .before .before .before .before .before .before .before .before .pre) in (l, wide-of (replicate 8192 nought) _ refl (l .few))
@@ -42,29 +39,11 @@ sum-is c = let r = c .before .before .before .before in c .outer-sum .ensures �
 pass-sum : (c : tie.After-outer-sum) → let s = began (c .before .before .before .before) in c .outer-sum .result ≡ passSum (s .args .c) (s .args .n) (now (s .args .numbers)) (now (s .args .codes))
 pass-sum c = let r = c .before .before .before .before in let s = began r in sum-is c ∙ ap (outerSum (cleaned (s .args .c .«gap_main»))) (items-in (items r) (listed-of (s .pre)) (r .read-main .ensures .0))
 
-clean-requires : tie.Need-clean-requires
-clean-requires c κs = search needs
-
-slice-aggregate-outer-sum : tie.Need-slice-aggregate-outer-sum
-slice-aggregate-outer-sum c = search needs
-
 outer-sum-requires : tie.Need-outer-sum-requires
 outer-sum-requires c κs =
     let r = c .before .before .before in
     let k = began r .pre in
     (wide r, subst Length (sym (c .before .clean .ensures)) (gap-is k), table-is k (items r) (wide r) (r .read-main .ensures .0))
-
-check-sum-requires : tie.Need-check-sum-requires
-check-sum-requires c κs = search needs
-
-enum-known-v : tie.Need-enum-known-v
-enum-known-v c = search needs
-
-enum-told : tie.Need-enum-told
-enum-told c = search needs
-
-slice-aggregate-lay-out : tie.Need-slice-aggregate-lay-out
-slice-aggregate-lay-out c = search needs
 
 lay-out-requires : tie.Need-lay-out-requires
 lay-out-requires c κs =
@@ -102,24 +81,7 @@ returns-2 c = (sym (ap summed (pass-sum (c .before .before .before .before .befo
 
 pub pass-checked-spec : {M : Type 1} → statement M
 pass-checked-spec =
-    tie.close
-    (tie.spec
-    slice-aggregate-read-main
-    read-main-requires
-    clean-requires
-    slice-aggregate-outer-sum
-    outer-sum-requires
-    check-sum-requires
-    enum-known-v
-    enum-told
-    slice-aggregate-lay-out
-    lay-out-requires
-    returns
-    same-length
-    same-length-2
-    same-length-3
-    same-length-4
-    same-length-5
-    same-length-6
-    same-length-7
-    returns-2)
+    tie.close (tie.spec (λ c. search needs) read-main-requires (λ c κs. search needs) (λ c. search needs)
+    outer-sum-requires (λ c κs. search needs) (λ c. search needs) (λ c. search needs) (λ c. search needs)
+    lay-out-requires returns same-length same-length-2 same-length-3 same-length-4 same-length-5 same-length-6
+    same-length-7 returns-2)

@@ -1,3 +1,0 @@
-pub mod Align
-pub mod Lists
-pub mod Axis

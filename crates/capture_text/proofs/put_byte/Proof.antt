@@ -1,0 +1,12 @@
+-- `capture_text::put_byte` meets its contract. Assumes nothing.
+use Rattle.capture_text.proofs.Puts.{put-one}
+use borrow.Author.Needs.{needs}
+use Rattle.capture_text.proofs.put_byte.Statement.{statement}
+use Rattle.capture_text.proofs.put_byte.Tie as tie
+
+returns : tie.Need-returns
+returns c = put-one (c .args .b) (c .pre)
+
+pub put-byte-spec : {M : Type 1} → statement M
+put-byte-spec =
+    tie.close (tie.spec (λ c. search needs) (λ c. search needs) (λ c. search needs) returns)

@@ -1,4 +1,0 @@
-pub mod Clearing
-pub mod ReadingLaws
-pub mod Finish
-pub mod RunLaws

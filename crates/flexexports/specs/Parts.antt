@@ -1,7 +1,0 @@
--- A refusal, which has no free space to tell of. Only the contract of a part cites it. Assumes nothing.
-use lib.IntN.{pos}
-use Rattle.crossing.specs.declared.CAnswer.{CAnswer}
-use Rattle.flexexports.specs.declared.CFlexed.{CFlexed}
-
-abbrev pub cNothing : CAnswer → CFlexed
-cNothing r = record { number = r .number; at = r .at; place = r .place; free = pos 0; rounds = r .rounds }

@@ -1,3 +1,0 @@
-pub mod LaidLaws
-pub mod LineAlone
-pub mod OneLaid

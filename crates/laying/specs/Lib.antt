@@ -1,3 +1,0 @@
-pub mod Laid
-pub mod Stages
-pub mod Alone

@@ -1,0 +1,5 @@
+pub mod UpTo
+pub mod Each
+pub mod Filling
+pub mod ByLine
+pub mod Walk

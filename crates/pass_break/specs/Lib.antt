@@ -1,0 +1,4 @@
+pub mod Wrapping
+pub mod Outer
+pub mod Parts
+pub mod BreakStage

@@ -1,0 +1,4 @@
+pub mod Main
+pub mod MainParts
+pub mod Sizes
+pub mod SizeParts

@@ -1,0 +1,3 @@
+pub mod Align
+pub mod Sums
+pub mod Axis

@@ -1,4 +1,0 @@
-pub mod Cells
-pub mod Modes
-pub mod Division
-pub mod Given
