@@ -1,4 +1,5 @@
--- The balanced call: what it takes, checks and answers (document 01, "Domain and refusal numbers" and "Breaking"). Assumes nothing.
+-- The balanced call: what it takes, checks and answers (document 01, "Domain and refusal numbers" and "Breaking").
+-- Assumes nothing.
 use mathlib.Core.Path.{_≡_}
 use mathlib.Core.Bool.{Bool, _&&_}
 use mathlib.Core.List.{List, _++_}
@@ -48,10 +49,12 @@ abbrev pub zeroedF : ℕ → List Float → List Float
 zeroedF n before = replicate n (ofBits binary64 0) ++ drop n before
 
 abbrev pub worked : ℕ → List ℕ → BreakLent → BreakLent
-worked n lines b = breakLent (countCells n lines (b .counts)) (zeroed (n * n + 3 * n) (b .work)) (zeroedF (3 * n) (b .sums))
+worked n lines b =
+    breakLent (countCells n lines (b .counts)) (zeroed (n * n + 3 * n) (b .work)) (zeroedF (3 * n) (b .sums))
 
 -- the balanced division, with the lent lists left as `leaves` says
-pub record DividesLeaving (leaves : ℕ → List ℕ → BreakLent → BreakLent) (limit : AvailableSpace) (gap : Float) (minimum : ℕ) (sizes : List Float) (before : BreakLent) (lines : ℕ) (after : BreakLent) : Type 0 where
+pub record DividesLeaving (leaves : ℕ → List ℕ → BreakLent → BreakLent) (limit : AvailableSpace) (gap : Float)
+    (minimum : ℕ) (sizes : List Float) (before : BreakLent) (lines : ℕ) (after : BreakLent) : Type 0 where
   pub division : List ℕ
   pub balanced : Balanced (limitOf limit) (sixtyFourths gap) (units sizes) minimum division
   pub lines-are : lines ≡ length division
@@ -60,8 +63,11 @@ pub record DividesLeaving (leaves : ℕ → List ℕ → BreakLent → BreakLent
 abbrev pub Divides : AvailableSpace → Float → ℕ → List Float → BreakLent → ℕ → BreakLent → Type 0
 Divides = DividesLeaving worked
 
--- THE CALL: it refuses by the checks and changes nothing, or it answers with the number of lines and leaves their counts. The codes are those that came
--- before the limit
-pub record BalancedCall (codes : List Number) (limit : AvailableSpace) (gap : Float) (minimum : ℕ) (sizes : List Float) (before : BreakLent) (r : Answer) (after : BreakLent) : Type 0 where
-  pub refused : (why : Refusal) → balancedVerdict codes limit gap sizes before ≡ verdict.Refused why → (r ≡ answer.Refused why) × (after ≡ before)
-  pub accepted : balancedVerdict codes limit gap sizes before ≡ Passed → (lines : ℕ) × (r ≡ Done lines 0) × Divides limit gap minimum sizes before lines after
+-- THE CALL: it refuses by the checks and changes nothing, or it answers with the number of lines and leaves their
+-- counts. The codes are those that came before the limit
+pub record BalancedCall (codes : List Number) (limit : AvailableSpace) (gap : Float) (minimum : ℕ) (sizes : List Float)
+    (before : BreakLent) (r : Answer) (after : BreakLent) : Type 0 where
+  pub refused : (why : Refusal) → balancedVerdict codes limit gap sizes before ≡ verdict.Refused why
+      → (r ≡ answer.Refused why) × (after ≡ before)
+  pub accepted : balancedVerdict codes limit gap sizes before ≡ Passed → (lines : ℕ) × (r ≡ Done lines 0)
+      × Divides limit gap minimum sizes before lines after

@@ -1,4 +1,5 @@
--- What only the contracts of the call's parts cite: the search reads some lists while it writes others, so it takes eight, five of them the frame's. Assumes nothing.
+-- What only the contracts of the call's parts cite: the search reads some lists while it writes others, so it takes
+-- eight, five of them the frame's. Assumes nothing.
 use mathlib.Core.List.{List}
 use Prim.Native.Nat.{ℕ, _+_, _*_, _≤_}
 use lib.ListN.{length}
@@ -23,7 +24,16 @@ pub record SearchLists : Type 0 where
   pub cur : List Float
 
 abbrev pub searchLists : List ℕ → List ℕ → List ℕ → List ℕ → List ℕ → List Float → List Float → List Float → SearchLists
-searchLists counts opts fit greedy reach sums prev cur = record { counts = counts; opts = opts; fit = fit; greedy = greedy; reach = reach; sums = sums; prev = prev; cur = cur }
+searchLists counts opts fit greedy reach sums prev cur = record {
+  counts = counts;
+  opts = opts;
+  fit = fit;
+  greedy = greedy;
+  reach = reach;
+  sums = sums;
+  prev = prev;
+  cur = cur;
+}
 
 -- n of each, and n * n of opts
 pub record SearchRoom (n : ℕ) (l : SearchLists) : Type 0 where

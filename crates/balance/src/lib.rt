@@ -31,8 +31,11 @@ fn divide_within(
     prev: &mut [f64],
     cur: &mut [f64],
 ) -> usize
-    requires { ⌜ Breakable limit gap (now sizes) × SearchRoom (length (now sizes)) (searchLists (now counts) (now opts) (now fit) (now greedy) (now reach) (now sums) (now prev) (now cur)) ⌝ }
-    ensures { λ r. ⌜ Searched limit gap minimum (now (sizes .entry)) (breakLent (now (counts .entry)) (now (opts .entry)) (now (sums .entry))) r (breakLent (now (counts .exit)) (now (opts .exit)) (now (sums .exit))) ⌝ }
+    requires { ⌜ Breakable limit gap (now sizes) × SearchRoom (length (now sizes))
+        (searchLists (now counts) (now opts) (now fit) (now greedy) (now reach) (now sums) (now prev) (now cur)) ⌝ }
+    ensures { λ r. ⌜ Searched limit gap minimum (now (sizes .entry))
+        (breakLent (now (counts .entry)) (now (opts .entry)) (now (sums .entry))) r
+        (breakLent (now (counts .exit)) (now (opts .exit)) (now (sums .exit))) ⌝ }
 {
     let n = sizes.len();
     let cells = n * n;
@@ -52,8 +55,8 @@ fn divide_within(
     )
 }
 
-// Two parts of one lent list cannot be lent at a time, so five lists of the search are the frame's. Of two lengths, since they are cleared
-// whatever n is: few items then pay for few cells.
+// Two parts of one lent list cannot be lent at a time, so five lists of the search are the frame's. Of two lengths,
+// since they are cleared whatever n is: few items then pay for few cells.
 fn divide_few(
     limit: AvailableSpace,
     gap: f32,
@@ -63,8 +66,11 @@ fn divide_few(
     work: &mut [u32],
     sums: &mut [f64],
 ) -> usize
-    requires { ⌜ Breakable limit gap (now sizes) × (Roomy (length (now sizes)) (breakLent (now counts) (now work) (now sums))) × (length (now sizes) ≤ 256) ⌝ }
-    ensures { λ r. ⌜ Searched limit gap minimum (now (sizes .entry)) (breakLent (now (counts .entry)) (now (work .entry)) (now (sums .entry))) r (breakLent (now (counts .exit)) (now (work .exit)) (now (sums .exit))) ⌝ }
+    requires { ⌜ Breakable limit gap (now sizes) × (Roomy (length (now sizes))
+        (breakLent (now counts) (now work) (now sums))) × (length (now sizes) ≤ 256) ⌝ }
+    ensures { λ r. ⌜ Searched limit gap minimum (now (sizes .entry))
+        (breakLent (now (counts .entry)) (now (work .entry)) (now (sums .entry))) r
+        (breakLent (now (counts .exit)) (now (work .exit)) (now (sums .exit))) ⌝ }
 {
     let mut fit = [0u32; 256];
     let mut greedy = [0u32; 256];
@@ -96,8 +102,11 @@ fn divide_many(
     work: &mut [u32],
     sums: &mut [f64],
 ) -> usize
-    requires { ⌜ Breakable limit gap (now sizes) × Roomy (length (now sizes)) (breakLent (now counts) (now work) (now sums)) ⌝ }
-    ensures { λ r. ⌜ Searched limit gap minimum (now (sizes .entry)) (breakLent (now (counts .entry)) (now (work .entry)) (now (sums .entry))) r (breakLent (now (counts .exit)) (now (work .exit)) (now (sums .exit))) ⌝ }
+    requires { ⌜ Breakable limit gap (now sizes) × Roomy (length (now sizes))
+        (breakLent (now counts) (now work) (now sums)) ⌝ }
+    ensures { λ r. ⌜ Searched limit gap minimum (now (sizes .entry))
+        (breakLent (now (counts .entry)) (now (work .entry)) (now (sums .entry))) r
+        (breakLent (now (counts .exit)) (now (work .exit)) (now (sums .exit))) ⌝ }
 {
     let mut fit = [0u32; 1024];
     let mut greedy = [0u32; 1024];
@@ -129,8 +138,11 @@ fn search(
     work: &mut [u32],
     sums: &mut [f64],
 ) -> usize
-    requires { ⌜ Breakable limit gap (now sizes) × Roomy (length (now sizes)) (breakLent (now counts) (now work) (now sums)) ⌝ }
-    ensures { λ r. ⌜ Searched limit gap minimum (now (sizes .entry)) (breakLent (now (counts .entry)) (now (work .entry)) (now (sums .entry))) r (breakLent (now (counts .exit)) (now (work .exit)) (now (sums .exit))) ⌝ }
+    requires { ⌜ Breakable limit gap (now sizes) × Roomy (length (now sizes))
+        (breakLent (now counts) (now work) (now sums)) ⌝ }
+    ensures { λ r. ⌜ Searched limit gap minimum (now (sizes .entry))
+        (breakLent (now (counts .entry)) (now (work .entry)) (now (sums .entry))) r
+        (breakLent (now (counts .exit)) (now (work .exit)) (now (sums .exit))) ⌝ }
 {
     if sizes.len() <= 256 {
         return divide_few(limit, gap, minimum, sizes, counts, work, sums);
@@ -148,8 +160,11 @@ pub fn divide_lent(
     work: &mut [u32],
     sums: &mut [f64],
 ) -> usize
-    requires { ⌜ Breakable limit gap (now sizes) × Roomy (length (now sizes)) (breakLent (now counts) (now work) (now sums)) ⌝ }
-    ensures { λ r. ⌜ Divides limit gap minimum (now (sizes .entry)) (breakLent (now (counts .entry)) (now (work .entry)) (now (sums .entry))) r (breakLent (now (counts .exit)) (now (work .exit)) (now (sums .exit))) ⌝ }
+    requires { ⌜ Breakable limit gap (now sizes) × Roomy (length (now sizes))
+        (breakLent (now counts) (now work) (now sums)) ⌝ }
+    ensures { λ r. ⌜ Divides limit gap minimum (now (sizes .entry))
+        (breakLent (now (counts .entry)) (now (work .entry)) (now (sums .entry))) r
+        (breakLent (now (counts .exit)) (now (work .exit)) (now (sums .exit))) ⌝ }
 {
     let n = sizes.len();
     let lines = search(limit, gap, minimum, sizes, counts, work, sums);
@@ -158,8 +173,8 @@ pub fn divide_lent(
     lines
 }
 
-// Whether n items have room. A list of more than 1,024 items is refused whatever the room, so their square is never taken. It also serves
-// callers that check codes of their own.
+// Whether n items have room. A list of more than 1,024 items is refused whatever the room, so their square is never
+// taken. It also serves callers that check codes of their own.
 pub fn has_room(n: usize, counts: usize, work: usize, sums: usize) -> bool
     ensures { λ r. ⌜ (n ≤ 1024 → r ≡ roomFor n counts work sums) ⌝ }
 {
@@ -182,7 +197,9 @@ pub fn balanced(
     work: &mut [u32],
     sums: &mut [f64],
 ) -> Answer
-    ensures { λ r. ⌜ BalancedCall [] limit gap minimum (now (sizes .entry)) (breakLent (now (counts .entry)) (now (work .entry)) (now (sums .entry))) r (breakLent (now (counts .exit)) (now (work .exit)) (now (sums .exit))) ⌝ }
+    ensures { λ r. ⌜ BalancedCall [] limit gap minimum (now (sizes .entry))
+        (breakLent (now (counts .entry)) (now (work .entry)) (now (sums .entry))) r
+        (breakLent (now (counts .exit)) (now (work .exit)) (now (sums .exit))) ⌝ }
 {
     let room = has_room(sizes.len(), counts.len(), work.len(), sums.len());
     match check_breaking(no_mark(), limit, gap, sizes, room) {

@@ -1,4 +1,5 @@
--- What the code computes on its cells, as the machine computes it, and what the cells hold. Only contracts of parts cite it. Assumes nothing.
+-- What the code computes on its cells, as the machine computes it, and what the cells hold. Only contracts of parts
+-- cite it. Assumes nothing.
 use mathlib.Core.Path.{_≡_}
 use mathlib.Core.Logic.{_⊎_}
 use mathlib.Core.List.{List}
@@ -15,7 +16,8 @@ use Rattle.balance_sums.specs.Sums.{ends}
 
 -- ---- the machine's arithmetic
 abbrev pub costF : List Float → List Float → Float → ℕ → Float
-costF sums prev base e = add binary64 (mul binary64 (sub binary64 (getD sums e nan) base) (sub binary64 (getD sums e nan) base)) (getD prev (e + 1) nan)
+costF sums prev base e = add binary64 (mul binary64 (sub binary64 (getD sums e nan) base)
+    (sub binary64 (getD sums e nan) base)) (getD prev (e + 1) nan)
 
 -- whether the item after e is zero
 abbrev pub zeroF : List Float → Float → ℕ → Bool
@@ -23,9 +25,11 @@ zeroF sums gap e = eq (sub binary64 (getD sums (e + 1) nan) (getD sums e nan)) g
 
 -- the choice between an end that no zero item follows and the far end
 abbrev pub chooseF : List Float → Float → List Float → Float → ℕ → ℕ → ℕ
-chooseF sums gap prev base near to = cond (zeroF sums gap to) (cond (le (costF sums prev base to) (costF sums prev base near)) to near) near
+chooseF sums gap prev base near to =
+    cond (zeroF sums gap to) (cond (le (costF sums prev base to) (costF sums prev base near)) to near) near
 
--- ---- what the cells stand for: the limit, the gap and the sizes of the rule, the greedy count of each suffix, how many lines follow, and from where to
+-- ---- what the cells stand for: the limit, the gap and the sizes of the rule, the greedy count of each suffix, how
+-- many lines follow, and from where to
 -- where the row below has its totals
 pub record Ghost : Type 0 where
   pub limit : Limit
@@ -52,14 +56,16 @@ pub record StartReady (q : Ghost) (fit : List ℕ) (s : ℕ) : Type 0 where
   pub to : ends fit s ≤ q .hi
 
 -- what a row of the program is given
-pub record RowIn (q : Ghost) (sums : List Float) (gap : Float) (fit : List ℕ) (prev : List Float) (maxEnd : ℕ) : Type 0 where
+pub record RowIn (q : Ghost) (sums : List Float) (gap : Float) (fit : List ℕ) (prev : List Float)
+    (maxEnd : ℕ) : Type 0 where
   pub count : length sums ≡ length (q .xs)
   pub gap-is : Holds gap (q .gap)
   pub sums-are : (i : ℕ) → i < length (q .xs) → Holds (getD sums i nan) (pre (q .gap) (q .xs) (suc i))
   pub small : pre (q .gap) (q .xs) (length (q .xs)) ≤ 2 ^ 24
   pub fits-are : (s : ℕ) → s < length (q .xs) → FitEnd (q .limit) (q .gap) (q .xs) s (ends fit s)
   pub greedy : GreedyCounts (length (q .xs)) (ends fit) (q .G)
-  pub prev-are : (t : ℕ) → Stands q t → Costs (length (q .xs)) (ends fit) (ZeroAt (q .xs)) (squareAt (q .gap) (q .xs)) (q .k) t (value prev t)
+  pub prev-are : (t : ℕ) → Stands q t → Costs (length (q .xs)) (ends fit) (ZeroAt (q .xs)) (squareAt (q .gap) (q .xs))
+      (q .k) t (value prev t)
   pub prev-hold : (t : ℕ) → Stands q t → Holds (getD prev t nan) (value prev t)
   pub some-after : 0 < q .k
   pub max-end : maxEnd + 1 + q .k ≡ length (q .xs)
@@ -67,10 +73,12 @@ pub record RowIn (q : Ghost) (sums : List Float) (gap : Float) (fit : List ℕ) 
 -- the choice that the row makes at the start s: the line's last item e
 abbrev pub Choice : Ghost → List ℕ → List Float → ℕ → ℕ → Type 0
 Choice q fit prev s e =
-    Argmin (Usable (length (q .xs)) (ends fit) (q .G) (ZeroAt (q .xs)) (q .k) s) (λ t. squareAt (q .gap) (q .xs) s t + value prev t) (e + 1)
+    Argmin (Usable (length (q .xs)) (ends fit) (q .G) (ZeroAt (q .xs)) (q .k) s)
+    (λ t. squareAt (q .gap) (q .xs) s t + value prev t) (e + 1)
 
 abbrev pub CoversIn : Ghost → List ℕ → List Float → ℕ → ℕ → ℕ → Type 0
-CoversIn q fit prev a b s = Covers (length (q .xs)) (ends fit) (q .G) (ZeroAt (q .xs)) (squareAt (q .gap) (q .xs)) (value prev) (q .k) a b s
+CoversIn q fit prev a b s =
+    Covers (length (q .xs)) (ends fit) (q .G) (ZeroAt (q .xs)) (squareAt (q .gap) (q .xs)) (value prev) (q .k) a b s
 
 -- what keeps the code's accesses in range
 pub record Safe (sums : List Float) (fit : List ℕ) (prev : List Float) (maxEnd b : ℕ) : Type 0 where
@@ -94,18 +102,23 @@ pub record FirstPlain (sums : List Float) (gap : Float) (from stop r : ℕ) : Ty
   pub here : r < stop → zeroF sums gap r ≡ false
 
 -- the last of the cheapest ends that no zero item follows, for whatever numbers the costs hold
-pub record LeastOf (sums : List Float) (gap : Float) (prev : List Float) (base : Float) (first stop r : ℕ) : Type 0 where
+pub record LeastOf (sums : List Float) (gap : Float) (prev : List Float) (base : Float)
+    (first stop r : ℕ) : Type 0 where
   pub lo : first ≤ r
   pub hi : r < stop
-  pub least : (c : ℕ → ℕ) → ((e : ℕ) → first ≤ e → e < stop → Holds (costF sums prev base e) (c e)) → Argmin (λ e. (first ≤ e) × (e < stop) × (zeroF sums gap e ≡ false)) c r
+  pub least : (c : ℕ → ℕ) → ((e : ℕ) → first ≤ e → e < stop → Holds (costF sums prev base e) (c e))
+      → Argmin (λ e. (first ≤ e) × (e < stop) × (zeroF sums gap e ≡ false)) c r
 
--- what a start's choice gives: the line's last item e, and the ends that are left for later starts, from `lo` on, and for earlier ones, up to `hi`
-pub record PickOut (sums : List Float) (gap : Float) (fit : List ℕ) (prev : List Float) (maxEnd a b s e lo hi : ℕ) : Type 0 where
+-- what a start's choice gives: the line's last item e, and the ends that are left for later starts, from `lo` on, and
+-- for earlier ones, up to `hi`
+pub record PickOut (sums : List Float) (gap : Float) (fit : List ℕ) (prev : List Float)
+    (maxEnd a b s e lo hi : ℕ) : Type 0 where
   pub end-lo : s ≤ e
   pub end-hi : e ≤ maxEnd
   pub lo-lo : a ≤ lo
   pub hi-hi : hi ≤ b
-  pub choice : (q : Ghost) → RowIn q sums gap fit prev maxEnd → EndsFeas q a b → StartReady q fit s → CoversIn q fit prev a b s
+  pub choice : (q : Ghost) → RowIn q sums gap fit prev maxEnd → EndsFeas q a b → StartReady q fit s
+      → CoversIn q fit prev a b s
       → Choice q fit prev s e
       × ((r : ℕ) → r < s → CoversIn q fit prev a b r → CoversIn q fit prev a hi r)
       × ((r : ℕ) → s < r → CoversIn q fit prev a b r → CoversIn q fit prev lo b r)
@@ -118,4 +131,5 @@ pub record RowOut (sums : List Float) (gap : Float) (fit : List ℕ) (prev : Lis
   pub filled : (q : Ghost) → RowIn q sums gap fit prev maxEnd → EndsFeas q a b
       → ((s : ℕ) → lo ≤ s → s < hi → StartReady q fit s × CoversIn q fit prev a b s)
       → (s : ℕ) → lo ≤ s → s < hi
-      → Choice q fit prev s (getD opts s 0) × Holds (getD cur s nan) (squareAt (q .gap) (q .xs) s (ends opts s) + value prev (ends opts s))
+      → Choice q fit prev s (getD opts s 0) × Holds (getD cur s nan)
+      (squareAt (q .gap) (q .xs) s (ends opts s) + value prev (ends opts s))

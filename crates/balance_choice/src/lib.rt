@@ -1,5 +1,5 @@
-// The choice of one start of a row: the end of its line, among the ends that it may have. Parts of balanced breaking, behind its checks: no entry
-// points.
+// The choice of one start of a row: the end of its line, among the ends that it may have. Parts of balanced breaking,
+// behind its checks: no entry points.
 ghost use mathlib.Core.Bool.{cond, false};
 ghost use lib.ListN.{length};
 ghost use lib.Ieee.{le};
@@ -63,7 +63,8 @@ fn beats(sums: &[f64], gap: Units, end: usize, cost: Score, least: Score) -> boo
 
 // The last of the cheapest ends from `first` up to `stop` that no zero item follows. None follows `first`.
 fn least(sums: &[f64], gap: Units, prev: &[f64], base: Units, first: usize, stop: usize) -> usize
-    requires { ⌜ (length (now sums) ≡ length (now prev)) × (first < stop) × (stop < length (now prev)) × (zeroF (now sums) (gap .0) first ≡ false) ⌝ }
+    requires { ⌜ (length (now sums) ≡ length (now prev)) × (first < stop) × (stop < length (now prev))
+        × (zeroF (now sums) (gap .0) first ≡ false) ⌝ }
     ensures { λ r. ⌜ LeastOf (now (sums .entry)) (gap .0) (now (prev .entry)) (base .0) first stop r ⌝ }
 {
     let mut best = first;
@@ -80,9 +81,11 @@ fn least(sums: &[f64], gap: Units, prev: &[f64], base: Units, first: usize, stop
     best
 }
 
-// `near`, the choice among the ends that no zero item follows, or `far`, the longest line, where a zero item follows that and it costs no more.
+// `near`, the choice among the ends that no zero item follows, or `far`, the longest line, where a zero item follows
+// that and it costs no more.
 fn choose(sums: &[f64], gap: Units, prev: &[f64], base: Units, near: usize, far: usize) -> usize
-    requires { ⌜ (length (now sums) ≡ length (now prev)) × (near + 1 < length (now prev)) × (far + 1 < length (now prev)) ⌝ }
+    requires { ⌜ (length (now sums) ≡ length (now prev)) × (near + 1 < length (now prev))
+        × (far + 1 < length (now prev)) ⌝ }
     ensures { λ r. ⌜ r ≡ chooseF (now (sums .entry)) (gap .0) (now (prev .entry)) (base .0) near far ⌝ }
 {
     if zero_after(sums, gap, far) {
@@ -94,7 +97,8 @@ fn choose(sums: &[f64], gap: Units, prev: &[f64], base: Units, near: usize, far:
     }
 }
 
-// What a start chose: the last item of its line, the first end that later starts may need, and the end before which earlier starts find theirs.
+// What a start chose: the last item of its line, the first end that later starts may need, and the end before which
+// earlier starts find theirs.
 pub struct Picked {
     pub end: usize,
     pub lo: usize,
@@ -113,8 +117,10 @@ pub fn pick<'a>(
     end_lo: usize,
     end_hi: usize,
 ) -> Picked
-    requires { ⌜ Safe (now sums) (now fit) (now prev) «max_end» «end_hi» × (start ≤ «max_end») × (base .0 ≡ baseF (now sums) (gap .0) start) ⌝ }
-    ensures { λ r. ⌜ PickOut (now (sums .entry)) (gap .0) (now (fit .entry)) (now (prev .entry)) «max_end» «end_lo» «end_hi» start (r .end) (r .lo) (r .hi) ⌝ }
+    requires { ⌜ Safe (now sums) (now fit) (now prev) «max_end» «end_hi» × (start ≤ «max_end»)
+        × (base .0 ≡ baseF (now sums) (gap .0) start) ⌝ }
+    ensures { λ r. ⌜ PickOut (now (sums .entry)) (gap .0) (now (fit .entry)) (now (prev .entry)) «max_end» «end_lo»
+        «end_hi» start (r .end) (r .lo) (r .hi) ⌝ }
 {
     let reach = at(fit, start);
     let from = larger(end_lo, start);

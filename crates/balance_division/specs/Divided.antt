@@ -1,4 +1,5 @@
--- The balanced division of accepted sizes, by the plain rule, and the work cells after it. Only contracts of parts cite it. Assumes nothing.
+-- The balanced division of accepted sizes, by the plain rule, and the work cells after it. Only contracts of parts cite
+-- it. Assumes nothing.
 use mathlib.Core.Path.{_≡_}
 use mathlib.Core.List.{List, _++_}
 use Prim.Native.Nat.{ℕ, _-_}
@@ -11,7 +12,8 @@ use Rattle.break_greedy.specs.Calls.{units}
 use Rattle.balance_rule.specs.Rule as rule
 
 -- the division, and its counts by line with 0 in the cells past the last line
-pub record BalancedCounts (limit : AvailableSpace) (gap : Float) (minimum : ℕ) (sizes : List Float) (r : ℕ) (counts : List ℕ) : Type 0 where
+pub record BalancedCounts (limit : AvailableSpace) (gap : Float) (minimum : ℕ) (sizes : List Float) (r : ℕ)
+    (counts : List ℕ) : Type 0 where
   pub division : List ℕ
   pub balanced : rule.Balanced (limitOf limit) (sixtyFourths gap) (units sizes) minimum division
   pub lines : r ≡ length division

@@ -1,5 +1,5 @@
-// The balanced division of accepted sizes, by the plain rule, with the work cells left zero. Parts of balanced breaking, behind its checks: no entry
-// points.
+// The balanced division of accepted sizes, by the plain rule, with the work cells left zero. Parts of balanced
+// breaking, behind its checks: no entry points.
 ghost use mathlib.Core.Path.{_≡_};
 ghost use Prim.Native.Nat.{_*_};
 ghost use lib.ListN.{length};
@@ -38,8 +38,9 @@ fn cap(limit: AvailableSpace) -> Cap
     }
 }
 
-// The balanced division of accepted sizes, in lists of exactly the cells that it takes. Of the lists to work in, those that a caller may lend (opts
-// and sums) are left zero: they may hold anything before a call, so each cell is owed. No entry point.
+// The balanced division of accepted sizes, in lists of exactly the cells that it takes. Of the lists to work in, those
+// that a caller may lend (opts and sums) are left zero: they may hold anything before a call, so each cell is owed. No
+// entry point.
 pub fn divide(
     limit: AvailableSpace,
     gap: f32,
@@ -54,8 +55,13 @@ pub fn divide(
     prev: &mut [f64],
     cur: &mut [f64],
 ) -> usize
-    requires { ⌜ Breakable limit gap (now sizes) ⌝ ∗ ⌜ (length (now counts) ≡ length (now sizes)) × (length (now opts) ≡ length (now sizes) * length (now sizes)) × (length (now fit) ≡ length (now sizes)) × (length (now greedy) ≡ length (now sizes)) × (length (now reach) ≡ length (now sizes)) × (length (now sums) ≡ length (now sizes)) × (length (now prev) ≡ length (now sizes)) × (length (now cur) ≡ length (now sizes)) ⌝ }
-    ensures { λ r. ⌜ BalancedCounts limit gap minimum (now (sizes .entry)) r (now (counts .exit)) ⌝ ∗ ⌜ Cleared (now (opts .entry)) (now (opts .exit)) × ClearedF (now (sums .entry)) (now (sums .exit)) ⌝ }
+    requires { ⌜ Breakable limit gap (now sizes) ⌝ ∗ ⌜ (length (now counts) ≡ length (now sizes))
+        × (length (now opts) ≡ length (now sizes) * length (now sizes)) × (length (now fit) ≡ length (now sizes))
+        × (length (now greedy) ≡ length (now sizes)) × (length (now reach) ≡ length (now sizes))
+        × (length (now sums) ≡ length (now sizes)) × (length (now prev) ≡ length (now sizes))
+        × (length (now cur) ≡ length (now sizes)) ⌝ }
+    ensures { λ r. ⌜ BalancedCounts limit gap minimum (now (sizes .entry)) r (now (counts .exit)) ⌝
+        ∗ ⌜ Cleared (now (opts .entry)) (now (opts .exit)) × ClearedF (now (sums .entry)) (now (sums .exit)) ⌝ }
 {
     if sizes.len() == 0 {
         return 0;

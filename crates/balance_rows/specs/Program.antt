@@ -16,7 +16,8 @@ abbrev pub countAt : List ℕ → ℕ → ℕ
 countAt greedy s = getD greedy s 0
 
 -- what the tables are
-pub record TablesAre (L : Limit) (g : ℕ) (xs : List ℕ) (sums : List Float) (gap : Float) (fit greedy : List ℕ) : Type 0 where
+pub record TablesAre (L : Limit) (g : ℕ) (xs : List ℕ) (sums : List Float) (gap : Float)
+    (fit greedy : List ℕ) : Type 0 where
   pub sums-are : SumsAre g xs sums gap
   pub fits-are : (s : ℕ) → s < length xs → FitEnd L g xs s (ends fit s)
   pub counts-are : GreedyCounts (length xs) (ends fit) (countAt greedy)
@@ -28,8 +29,10 @@ pub record Within (reach : List ℕ) (j s : ℕ) : Type 0 where
 
 -- what a row of totals is, k lines following, for the starts of line j
 pub record PrevIs (g : ℕ) (xs : List ℕ) (fit greedy reach : List ℕ) (prev : List Float) (k j : ℕ) : Type 0 where
-  pub costs : (t : ℕ) → Feas (length xs) (countAt greedy) t k → Within reach j t → Costs (length xs) (ends fit) (ZeroAt xs) (squareAt g xs) k t (value prev t)
-  pub holds : (t : ℕ) → Feas (length xs) (countAt greedy) t k → Within reach j t → Holds (getD prev t nan) (value prev t)
+  pub costs : (t : ℕ) → Feas (length xs) (countAt greedy) t k → Within reach j t
+      → Costs (length xs) (ends fit) (ZeroAt xs) (squareAt g xs) k t (value prev t)
+  pub holds : (t : ℕ) → Feas (length xs) (countAt greedy) t k → Within reach j t
+      → Holds (getD prev t nan) (value prev t)
 
 -- what keeps a row's accesses in range
 pub record RowSafe (sums : List Float) (fit : List ℕ) (prev : List Float) (lines : ℕ) : Type 0 where
@@ -48,22 +51,30 @@ pub record RowFor (q : Ghost) (fit : List ℕ) (lo last seen : ℕ) : Type 0 whe
   pub from : (s : ℕ) → lo ≤ s → q .lo ≤ s + 1
   pub to : (s : ℕ) → lo ≤ s → s ≤ last → s < length (q .xs) → ends fit s ≤ q .hi
 
-pub record OneRow (sums : List Float) (gap : Float) (fit : List ℕ) (prev : List Float) (lines lo last seen : ℕ) (prev′ : List Float) (opts : List ℕ) : Type 0 where
+pub record OneRow (sums : List Float) (gap : Float) (fit : List ℕ) (prev : List Float) (lines lo last seen : ℕ)
+    (prev′ : List Float) (opts : List ℕ) : Type 0 where
   pub out : (q : Ghost) → RowIn q sums gap fit prev (length prev - lines) → RowFor q fit lo last seen
       → (s : ℕ) → lo ≤ s → s ≤ last → Feas (length (q .xs)) (q .G) s (suc (q .k))
-      → Choice q fit prev s (getD opts s 0) × Holds (getD prev′ s nan) (squareAt (q .gap) (q .xs) s (ends opts s) + value prev (ends opts s))
+      → Choice q fit prev s (getD opts s 0) × Holds (getD prev′ s nan)
+      (squareAt (q .gap) (q .xs) s (ends opts s) + value prev (ends opts s))
 
 -- ---- the rows together
 -- the choices with k lines following, for the starts of line j, stand in `opts` from `base` on
 pub record RowKept (g : ℕ) (xs : List ℕ) (fit greedy reach : List ℕ) (opts : List ℕ) (base k j : ℕ) : Type 0 where
   pub v : ℕ → ℕ
-  pub costs : (u : ℕ) → Feas (length xs) (countAt greedy) u k → Within reach (j + 1) u → Costs (length xs) (ends fit) (ZeroAt xs) (squareAt g xs) k u (v u)
+  pub costs : (u : ℕ) → Feas (length xs) (countAt greedy) u k → Within reach (j + 1) u
+      → Costs (length xs) (ends fit) (ZeroAt xs) (squareAt g xs) k u (v u)
   pub choices : (s : ℕ) → Feas (length xs) (countAt greedy) s (suc k) → Within reach j s
-      → Argmin (Usable (length xs) (ends fit) (countAt greedy) (ZeroAt xs) k s) (λ t. squareAt g xs s t + v t) (getD opts (base + s) 0 + 1)
+      → Argmin (Usable (length xs) (ends fit) (countAt greedy) (ZeroAt xs) k s) (λ t. squareAt g xs s t + v t)
+      (getD opts (base + s) 0 + 1)
 
-pub record RowsSoFar (sums : List Float) (gap : Float) (fit greedy reach : List ℕ) (K : ℕ) (prev₀ prev : List Float) (opts : List ℕ) (lines : ℕ) : Type 0 where
-  pub out : (L : Limit) (g : ℕ) (xs : List ℕ) → TablesAre L g xs sums gap fit greedy → PrevIs g xs fit greedy reach prev₀ 1 (K - 1)
-      → PrevIs g xs fit greedy reach prev (lines - 1) (K - (lines - 1)) × ((k : ℕ) → 1 ≤ k → k + 1 < lines → RowKept g xs fit greedy reach opts ((k - 1) * length sums) k (K - (k + 1)))
+pub record RowsSoFar (sums : List Float) (gap : Float) (fit greedy reach : List ℕ) (K : ℕ) (prev₀ prev : List Float)
+    (opts : List ℕ) (lines : ℕ) : Type 0 where
+  pub out : (L : Limit) (g : ℕ) (xs : List ℕ) → TablesAre L g xs sums gap fit greedy
+      → PrevIs g xs fit greedy reach prev₀ 1 (K - 1)
+      → PrevIs g xs fit greedy reach prev (lines - 1) (K - (lines - 1))
+      × ((k : ℕ) → 1 ≤ k → k + 1 < lines → RowKept g xs fit greedy reach opts ((k - 1) * length sums) k
+      (K - (k + 1)))
 
 -- the same for all rows
 pub record RowBase (sums : List Float) (fit greedy reach : List ℕ) (prev : List Float) : Type 0 where

@@ -1,5 +1,5 @@
-// The rows of the dynamic program: row k has the best division of the items from each start on into k lines. Parts of balanced breaking, behind its
-// checks: no entry points.
+// The rows of the dynamic program: row k has the best division of the items from each start on into k lines. Parts of
+// balanced breaking, behind its checks: no entry points.
 ghost use Prim.Native.Nat.{ℕ, _+_, _-_, _*_, _≤_, _<_};
 ghost use lib.ListN.{length, getD};
 ghost use lib.Ieee.{binary64, mul, nan};
@@ -18,8 +18,8 @@ use balance_sums::sums::line_size;
 use grid::whole::larger;
 use grid::whole::smaller;
 
-// Fills the starts from `lo` up to `hi` of a row: the middle one by its choice, and the two halves by calls of itself, each with the ends
-// that its starts may still need, of those from `from` up to `to`. No line ends past `last`.
+// Fills the starts from `lo` up to `hi` of a row: the middle one by its choice, and the two halves by calls of itself,
+// each with the ends that its starts may still need, of those from `from` up to `to`. No line ends past `last`.
 fn fill_row<'a>(
     sums: &'a [f64],
     gap: Units,
@@ -33,8 +33,10 @@ fn fill_row<'a>(
     from: usize,
     to: usize,
 )
-    requires { ⌜ Safe (now sums) (now fit) (now prev) last to × (hi ≤ last + 1) × (length (now cur) ≡ length (now prev)) × (length (now opts) ≡ length (now prev)) ⌝ }
-    ensures { λ _. ⌜ RowOut (now (sums .entry)) (gap .0) (now (fit .entry)) (now (prev .entry)) last lo hi from to (now (cur .entry)) (now (cur .exit)) (now (opts .entry)) (now (opts .exit)) ⌝ }
+    requires { ⌜ Safe (now sums) (now fit) (now prev) last to × (hi ≤ last + 1) × (length (now cur) ≡ length (now prev))
+        × (length (now opts) ≡ length (now prev)) ⌝ }
+    ensures { λ _. ⌜ RowOut (now (sums .entry)) (gap .0) (now (fit .entry)) (now (prev .entry)) last lo hi from to
+        (now (cur .entry)) (now (cur .exit)) (now (opts .entry)) (now (opts .exit)) ⌝ }
 {
     if lo < hi {
         let start = lo + (hi - lo) / 2;
@@ -59,7 +61,9 @@ fn fill_row<'a>(
 // The first row: one line takes all that is left. No entry point.
 pub fn first_row(sums: &[f64], gap: Units, prev: &mut [f64])
     requires { ⌜ (length (now prev) ≡ length (now sums)) × (length (now sums) ≤ 1024) × (0 < length (now sums)) ⌝ }
-    ensures { λ _. ⌜ ((s : ℕ) → s < length (now (sums .entry)) → getD (now (prev .exit)) s nan ≡ mul binary64 (sizeF (now (sums .entry)) (gap .0) s (length (now (sums .entry)) - 1)) (sizeF (now (sums .entry)) (gap .0) s (length (now (sums .entry)) - 1))) ⌝ }
+    ensures { λ _. ⌜ ((s : ℕ) → s < length (now (sums .entry))
+        → getD (now (prev .exit)) s nan ≡ mul binary64 (sizeF (now (sums .entry)) (gap .0) s
+        (length (now (sums .entry)) - 1)) (sizeF (now (sums .entry)) (gap .0) s (length (now (sums .entry)) - 1))) ⌝ }
 {
     let last = sums.len() - 1;
     let mut start = 0;
@@ -97,7 +101,8 @@ fn first_start(greedy: &[u32], from: usize, lines: usize) -> usize
     start
 }
 
-// One row: the starts from `start_lo` to `last`, divided into `lines` lines. What follows their first lines starts at `seen` or later.
+// One row: the starts from `start_lo` to `last`, divided into `lines` lines. What follows their first lines starts at
+// `seen` or later.
 fn one_row<'a>(
     sums: &'a [f64],
     gap: Units,
@@ -110,8 +115,10 @@ fn one_row<'a>(
     last: usize,
     seen: usize,
 )
-    requires { ⌜ RowSafe (now sums) (now fit) (now prev) lines × (length (now cur) ≡ length (now prev)) × (length (now opts) ≡ length (now prev)) ⌝ }
-    ensures { λ _. ⌜ OneRow (now (sums .entry)) (gap .0) (now (fit .entry)) (now (prev .entry)) lines «start_lo» last seen (now (prev .exit)) (now (opts .exit)) ⌝ }
+    requires { ⌜ RowSafe (now sums) (now fit) (now prev) lines × (length (now cur) ≡ length (now prev))
+        × (length (now opts) ≡ length (now prev)) ⌝ }
+    ensures { λ _. ⌜ OneRow (now (sums .entry)) (gap .0) (now (fit .entry)) (now (prev .entry)) lines «start_lo» last
+        seen (now (prev .exit)) (now (opts .exit)) ⌝ }
 {
     let max_end = prev.len() - lines;
     let end_lo = less_one(seen);
@@ -133,7 +140,8 @@ fn one_row<'a>(
     copy_row(prev, cur, start_lo, start_hi);
 }
 
-// The rows for 2 lines up to `line_count`. A row has only the starts that the rows after it, or the read-back, ask for. No entry point.
+// The rows for 2 lines up to `line_count`. A row has only the starts that the rows after it, or the read-back, ask for.
+// No entry point.
 pub fn rows<'a>(
     sums: &'a [f64],
     gap: Units,
@@ -145,8 +153,12 @@ pub fn rows<'a>(
     opts: &mut [u32],
     line_count: usize,
 )
-    requires { ⌜ RowBase (now sums) (now fit) (now greedy) (now reach) (now prev) × (length (now cur) ≡ length (now prev)) × (1 ≤ «line_count») × («line_count» ≤ length (now prev)) × («line_count» * length (now prev) ≤ length (now opts) + length (now prev)) ⌝ }
-    ensures { λ _. ⌜ RowsSoFar (now (sums .entry)) (gap .0) (now (fit .entry)) (now (greedy .entry)) (now (reach .entry)) «line_count» (now (prev .entry)) (now (prev .exit)) (now (opts .exit)) («line_count» + 1) ⌝ }
+    requires { ⌜ RowBase (now sums) (now fit) (now greedy) (now reach) (now prev)
+        × (length (now cur) ≡ length (now prev)) × (1 ≤ «line_count») × («line_count» ≤ length (now prev))
+        × («line_count» * length (now prev) ≤ length (now opts) + length (now prev)) ⌝ }
+    ensures { λ _. ⌜ RowsSoFar (now (sums .entry)) (gap .0) (now (fit .entry)) (now (greedy .entry))
+        (now (reach .entry)) «line_count» (now (prev .entry)) (now (prev .exit)) (now (opts .exit))
+        («line_count» + 1) ⌝ }
 {
     let n = sums.len();
     let mut lines = 2;

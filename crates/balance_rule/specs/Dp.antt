@@ -1,6 +1,7 @@
--- The dynamic program over positions, apart from sizes. A line goes from the item s up to, not including, the item t, and k lines follow it.
--- F s is where the longest allowed line from s ends, G s the greedy line count of the items from s on, Z t says that item t is zero, and w s t
--- is the score of the line from s to t. Only contracts of parts cite it. Assumes nothing: what is asked of F, G, Z and w is the record `Laws`.
+-- The dynamic program over positions, apart from sizes. A line goes from the item s up to, not including, the item t,
+-- and k lines follow it. F s is where the longest allowed line from s ends, G s the greedy line count of the items from
+-- s on, Z t says that item t is zero, and w s t is the score of the line from s to t. Only contracts of parts cite it.
+-- Assumes nothing: what is asked of F, G, Z and w is the record `Laws`.
 use mathlib.Core.Path.{_≡_}
 use mathlib.Core.Logic.{_⊎_}
 use mathlib.Core.List.{List, [], _∷_}
@@ -15,8 +16,8 @@ pub record Argmin (U : ℕ → Type 0) (c : ℕ → ℕ) (t : ℕ) : Type 0 wher
   pub last : (u : ℕ) → U u → t < u → c t < c u
 
 -- ---- divisions by position
--- The line from s to t is allowed, k lines following: it holds an item, is no longer than F allows, and if item t is zero, the line could not take it
--- (F s ≤ t), or fewer than k items would be left after it.
+-- The line from s to t is allowed, k lines following: it holds an item, is no longer than F allows, and if item t is
+-- zero, the line could not take it (F s ≤ t), or fewer than k items would be left after it.
 pub record Ok (n : ℕ) (F : ℕ → ℕ) (Z : ℕ → Type 0) (s t k : ℕ) : Type 0 where
   pub some : s < t
   pub inside : t ≤ n

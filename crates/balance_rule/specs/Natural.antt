@@ -1,5 +1,6 @@
--- The rule of specs/Rule.antt over natural numbers, as the laws of the dynamic program have it. Only contracts of parts cite it;
--- `balanced-is` of proofs/Bridge.antt says that what it names is what Rule.antt names. `xs` has the sizes, negative ones read as 0. Assumes nothing.
+-- The rule of specs/Rule.antt over natural numbers, as the laws of the dynamic program have it. Only contracts of parts
+-- cite it; `balanced-is` of proofs/Bridge.antt says that what it names is what Rule.antt names. `xs` has the sizes,
+-- negative ones read as 0. Assumes nothing.
 use mathlib.Core.Path.{_≡_}
 use mathlib.Core.Logic.{_⊎_}
 use mathlib.Core.List.{List, [], _∷_}

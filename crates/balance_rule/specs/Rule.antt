@@ -1,5 +1,6 @@
--- THE PLAIN RULE OF BALANCED BREAKING (document 01, "Breaking", "Balanced"), as definitions alone. Nothing here searches for a division:
--- `Chosen` only says what a division must be. Every number counts whole sixty-fourths of a pixel, or items, or lines. Assumes nothing.
+-- THE PLAIN RULE OF BALANCED BREAKING (document 01, "Breaking", "Balanced"), as definitions alone. Nothing here
+-- searches for a division: `Chosen` only says what a division must be. Every number counts whole sixty-fourths of a
+-- pixel, or items, or lines. Assumes nothing.
 use mathlib.Core.Path.{_≡_}
 use mathlib.Core.Bool.{not}
 use mathlib.Core.Logic.{_⊎_}
@@ -22,14 +23,14 @@ pub record Line (limit : Limit) (gap : ℤ) (xs : List ℤ) (c after : ℕ) : Ty
   pub enough : c ≤ length xs
   -- "each line has one item or fits"
   pub fit : (c ≡ 1) ⊎ T (fits limit (lineSize gap (take c xs)))
-  -- "if the item after a line is zero, either the line with it would not fit, or fewer items would remain after that item than there are
-  -- lines after this one". The item after the line is item number c of xs, where there is one: under `c < length xs` the default
-  -- `pos 1` is never read.
+  -- "if the item after a line is zero, either the line with it would not fit, or fewer items would remain after that
+  -- item than there are lines after this one". The item after the line is item number c of xs, where there is one:
+  -- under `c < length xs` the default `pos 1` is never read.
   pub zeros : c < length xs → getD xs c (pos 1) ≡ pos 0
       → T (not (fits limit (lineSize gap (take (c + 1) xs)))) ⊎ (length xs - (c + 1) < after)
 
--- A VALID DIVISION of the items xs into the lines d, each line given by its count. What a line does not take is left for the lines after it,
--- and nothing is left after the last: so the counts' sum is the number of items.
+-- A VALID DIVISION of the items xs into the lines d, each line given by its count. What a line does not take is left
+-- for the lines after it, and nothing is left after the last: so the counts' sum is the number of items.
 abbrev pub Valid : Limit → ℤ → List ℤ → List ℕ → Type 0
 Valid limit gap xs [] = xs ≡ []
 Valid limit gap xs (c ∷ d) = Line limit gap xs c (length d) × Valid limit gap (drop c xs) d
@@ -62,7 +63,8 @@ held minimum n = min (max minimum 1) n
 abbrev pub required : Limit → ℤ → List ℤ → ℕ → ℕ
 required limit gap xs minimum = max (length (greedy limit gap xs)) (held minimum (length xs))
 
--- THE RULE: d is the chosen division of the sizes, negative ones read as 0, into the required number of lines. Under min-content no line of
--- several items fits, so that every line is one item; and no items make no lines.
+-- THE RULE: d is the chosen division of the sizes, negative ones read as 0, into the required number of lines. Under
+-- min-content no line of several items fits, so that every line is one item; and no items make no lines.
 abbrev pub Balanced : Limit → ℤ → List ℤ → ℕ → List ℕ → Type 0
-Balanced limit gap sizes minimum d = Chosen limit gap (map floored sizes) (required limit gap (map floored sizes) minimum) d
+Balanced limit gap sizes minimum d =
+    Chosen limit gap (map floored sizes) (required limit gap (map floored sizes) minimum) d

@@ -1,4 +1,5 @@
--- From the rule's lists to positions: sums, and where a line stops fitting. Only contracts of parts cite it. Assumes nothing.
+-- From the rule's lists to positions: sums, and where a line stops fitting. Only contracts of parts cite it. Assumes
+-- nothing.
 use mathlib.Core.Path.{_≡_}
 use mathlib.Core.Logic.{_⊎_}
 use mathlib.Core.List.{List, [], _∷_}

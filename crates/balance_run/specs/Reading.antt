@@ -24,4 +24,5 @@ pub record RowsReadable (opts : List ℕ) (n K : ℕ) : Type 0 where
   pub start : Feas (length xs) (countAt greedy) 0 K
 
 pub record ReadOut (opts : List ℕ) (n K : ℕ) (counts : List ℕ) : Type 0 where
-  pub best : (R : RowsReadable opts n K) → BestAt (length (R .xs)) (ends (R .fit)) (ZeroAt (R .xs)) (squareAt (R .g) (R .xs)) 0 K (take K counts)
+  pub best : (R : RowsReadable opts n K) → BestAt (length (R .xs)) (ends (R .fit)) (ZeroAt (R .xs))
+      (squareAt (R .g) (R .xs)) 0 K (take K counts)

@@ -1,4 +1,5 @@
--- What the functions of a whole run are given, and give, by the rule over natural numbers. Only contracts of parts cite it. Assumes nothing.
+-- What the functions of a whole run are given, and give, by the rule over natural numbers. Only contracts of parts cite
+-- it. Assumes nothing.
 use mathlib.Core.Path.{_≡_}
 use mathlib.Core.List.{List, _++_}
 use mathlib.Core.Bool.{Bool}
@@ -17,7 +18,8 @@ pub record BalanceIn (sums : List Float) (gap : Float) (bounded : Bool) (limit :
   pub sums-are : SumsAre g xs sums gap
   pub limit-is : LimitIs L bounded limit
 
-pub record BalanceOut (sums : List Float) (gap : Float) (bounded : Bool) (limit : Float) (minimum r : ℕ) (counts : List ℕ) : Type 0 where
+pub record BalanceOut (sums : List Float) (gap : Float) (bounded : Bool) (limit : Float) (minimum r : ℕ)
+    (counts : List ℕ) : Type 0 where
   pub few : r ≤ length sums
   pub balanced : (I : BalanceIn sums gap bounded limit) → Balanced (I .L) (I .g) (I .xs) minimum (take r counts)
 
@@ -30,7 +32,8 @@ pub record RunIn (sizes : List Float) (gap : Float) (bounded : Bool) (limit : Fl
   pub limit-is : LimitIs L bounded limit
 
 -- the division, and its counts by line with 0 in the cells past the last line
-pub record RunOut (sizes : List Float) (gap : Float) (bounded : Bool) (limit : Float) (minimum r : ℕ) (counts : List ℕ) : Type 0 where
+pub record RunOut (sizes : List Float) (gap : Float) (bounded : Bool) (limit : Float) (minimum r : ℕ)
+    (counts : List ℕ) : Type 0 where
   pub division : List ℕ
   pub balanced : (I : RunIn sizes gap bounded limit) → Balanced (I .L) (I .g) (I .xs) minimum division
   pub lines : r ≡ length division

@@ -1,5 +1,5 @@
-// The whole run: from the items' sizes, or their sums, to the balanced division's counts by line. A part of balanced breaking, behind its checks: no
-// entry point.
+// The whole run: from the items' sizes, or their sums, to the balanced division's counts by line. A part of balanced
+// breaking, behind its checks: no entry point.
 ghost use mathlib.Core.Path.{_≡_};
 ghost use mathlib.Core.Bool.{not};
 ghost use Prim.Native.Nat.{ℕ, _+_, _*_, _≤_, _<_};
@@ -22,7 +22,8 @@ use grid::whole::smaller;
 
 // Reads the division out of the rows' choices, front to back.
 fn read_back(opts: &[u32], counts: &mut [u32], n: usize, line_count: usize)
-    requires { ⌜ RowsReadable (now opts) n «line_count» × (n ≤ 1024) × (1 ≤ «line_count») × («line_count» ≤ n) × («line_count» ≤ length (now counts)) × («line_count» * n ≤ length (now opts) + n) ⌝ }
+    requires { ⌜ RowsReadable (now opts) n «line_count» × (n ≤ 1024) × (1 ≤ «line_count») × («line_count» ≤ n)
+        × («line_count» ≤ length (now counts)) × («line_count» * n ≤ length (now opts) + n) ⌝ }
     ensures { λ _. ⌜ ReadOut (now (opts .entry)) n «line_count» (now (counts .exit)) ⌝ }
 {
     let mut start = 0;
@@ -52,8 +53,13 @@ fn line_item_counts(
     opts: &mut [u32],
     counts: &mut [u32],
 ) -> usize
-    requires { ⌜ BalanceIn (now sums) (gap .0) (limit .bounded) (limit .most .0) × (1 ≤ length (now sums)) × (length (now sums) ≤ 1024) ⌝ ∗ ⌜ (length (now prev) ≡ length (now sums)) × (length (now cur) ≡ length (now sums)) × (length (now fit) ≡ length (now sums)) × (length (now greedy) ≡ length (now sums)) × (length (now reach) ≡ length (now sums)) × (length (now opts) ≡ length (now sums) * length (now sums)) × (length (now counts) ≡ length (now sums)) ⌝ }
-    ensures { λ r. ⌜ BalanceOut (now (sums .entry)) (gap .0) (limit .bounded) (limit .most .0) minimum r (now (counts .exit)) ⌝ }
+    requires { ⌜ BalanceIn (now sums) (gap .0) (limit .bounded) (limit .most .0) × (1 ≤ length (now sums))
+        × (length (now sums) ≤ 1024) ⌝ ∗ ⌜ (length (now prev) ≡ length (now sums))
+        × (length (now cur) ≡ length (now sums)) × (length (now fit) ≡ length (now sums))
+        × (length (now greedy) ≡ length (now sums)) × (length (now reach) ≡ length (now sums))
+        × (length (now opts) ≡ length (now sums) * length (now sums)) × (length (now counts) ≡ length (now sums)) ⌝ }
+    ensures { λ r. ⌜ BalanceOut (now (sums .entry)) (gap .0) (limit .bounded) (limit .most .0) minimum r
+        (now (counts .exit)) ⌝ }
 {
     let n = sums.len();
     fit_ends(sums, gap, limit, fit);
@@ -84,8 +90,14 @@ pub fn counts_of_sizes(
     opts: &mut [u32],
     counts: &mut [u32],
 ) -> usize
-    requires { ⌜ RunIn (now sizes) (gap .0) (limit .bounded) (limit .most .0) × (1 ≤ length (now sizes)) × (length (now sizes) ≤ 1024) × ((i : ℕ) → i < length (now sizes) → T (not (isNan (getD (now sizes) i nan)))) ⌝ ∗ ⌜ (length (now sums) ≡ length (now sizes)) × (length (now prev) ≡ length (now sizes)) × (length (now cur) ≡ length (now sizes)) × (length (now fit) ≡ length (now sizes)) × (length (now greedy) ≡ length (now sizes)) × (length (now reach) ≡ length (now sizes)) × (length (now opts) ≡ length (now sizes) * length (now sizes)) × (length (now counts) ≡ length (now sizes)) ⌝ }
-    ensures { λ r. ⌜ RunOut (now (sizes .entry)) (gap .0) (limit .bounded) (limit .most .0) minimum r (now (counts .exit)) ⌝ }
+    requires { ⌜ RunIn (now sizes) (gap .0) (limit .bounded) (limit .most .0) × (1 ≤ length (now sizes))
+        × (length (now sizes) ≤ 1024) × ((i : ℕ) → i < length (now sizes) → T (not (isNan (getD (now sizes) i nan)))) ⌝
+        ∗ ⌜ (length (now sums) ≡ length (now sizes)) × (length (now prev) ≡ length (now sizes))
+        × (length (now cur) ≡ length (now sizes)) × (length (now fit) ≡ length (now sizes))
+        × (length (now greedy) ≡ length (now sizes)) × (length (now reach) ≡ length (now sizes))
+        × (length (now opts) ≡ length (now sizes) * length (now sizes)) × (length (now counts) ≡ length (now sizes)) ⌝ }
+    ensures { λ r. ⌜ RunOut (now (sizes .entry)) (gap .0) (limit .bounded) (limit .most .0) minimum r
+        (now (counts .exit)) ⌝ }
 {
     add_up(sizes, gap, sums);
     let k = line_item_counts(

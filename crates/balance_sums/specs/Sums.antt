@@ -1,4 +1,5 @@
--- Sums of items and sizes of lines, as the machine computes them, and the end of a line in a table. Only contracts of parts cite it. Assumes nothing.
+-- Sums of items and sizes of lines, as the machine computes them, and the end of a line in a table. Only contracts of
+-- parts cite it. Assumes nothing.
 use mathlib.Core.List.{List}
 use mathlib.Core.Bool.{false}
 use Prim.Native.Nat.{ℕ, zero, suc, _+_}

@@ -1,4 +1,5 @@
--- Whole numbers held in an `f64`: `Holds x a` says that x is the number a, and not -0. Only contracts of parts cite it. Assumes nothing.
+-- Whole numbers held in an `f64`: `Holds x a` says that x is the number a, and not -0. Only contracts of parts cite it.
+-- Assumes nothing.
 use mathlib.Core.Bool.{false}
 use Prim.Native.Nat.{ℕ, _*_, _/_}
 use lib.Ieee.{Float, nan, inf, fin, up, down}

@@ -1,5 +1,5 @@
-// Sums of the items, and the sizes of lines from them. Everything here counts whole sixty-fourths, held exactly in an `f64`. No entry
-// points.
+// Sums of the items, and the sizes of lines from them. Everything here counts whole sixty-fourths, held exactly in an
+// `f64`. No entry points.
 ghost use Prim.Native.Nat.{_≤_, _<_};
 ghost use lib.ListN.{length};
 ghost use Rattle.balance_sums.specs.Sums.{beforeF, sizeF, baseF};
@@ -25,7 +25,8 @@ pub fn line_size(sums: &[f64], gap: Units, start: usize, end: usize) -> Units
     Units(sums[end] - b - gap.0)
 }
 
-// What the sums up to a line's end hold besides the line that begins at `start`: the items before it, and one gap. No entry point.
+// What the sums up to a line's end hold besides the line that begins at `start`: the items before it, and one gap. No
+// entry point.
 pub fn base(sums: &[f64], gap: Units, start: usize) -> Units
     requires { ⌜ start ≤ length (now sums) ⌝ }
     ensures { λ r. ⌜ r .0 ≡ baseF (now (sums .entry)) (gap .0) start ⌝ }

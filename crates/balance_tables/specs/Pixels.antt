@@ -1,4 +1,5 @@
--- A size in pixels, an `f32` that is a whole number of sixty-fourths, as a whole number of sixty-fourths in an `f64`, negative ones read as 0. Only contracts of parts cite it. Assumes nothing.
+-- A size in pixels, an `f32` that is a whole number of sixty-fourths, as a whole number of sixty-fourths in an `f64`,
+-- negative ones read as 0. Only contracts of parts cite it. Assumes nothing.
 use mathlib.Core.Path.{_≡_}
 use mathlib.Core.Logic.{_⊎_}
 use mathlib.Core.List.{List}

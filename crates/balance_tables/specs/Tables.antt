@@ -1,4 +1,5 @@
--- The tables that the rows are worked out from: fit ends, greedy counts, how far the first lines reach. Only contracts of parts cite it. Assumes nothing.
+-- The tables that the rows are worked out from: fit ends, greedy counts, how far the first lines reach. Only contracts
+-- of parts cite it. Assumes nothing.
 use mathlib.Core.Path.{_≡_}
 use mathlib.Core.Logic.{_⊎_}
 use mathlib.Core.List.{List}
@@ -39,7 +40,8 @@ pub record StretchOut (sums : List Float) (gap : Float) (bounded : Bool) (limit 
 pub record FitsOut (sums : List Float) (gap : Float) (bounded : Bool) (limit : Float) (fit : List ℕ) : Type 0 where
   pub lo : (s : ℕ) → s < length sums → s ≤ getD fit s 0
   pub hi : (s : ℕ) → s < length sums → getD fit s 0 < length sums
-  pub are : (L : Limit) (g : ℕ) (xs : List ℕ) → SumsAre g xs sums gap → LimitIs L bounded limit → (s : ℕ) → s < length sums → FitEnd L g xs s (ends fit s)
+  pub are : (L : Limit) (g : ℕ) (xs : List ℕ) → SumsAre g xs sums gap → LimitIs L bounded limit → (s : ℕ)
+      → s < length sums → FitEnd L g xs s (ends fit s)
 
 -- ---- the greedy counts, from the end down to `start`
 pub record CountsFrom (fit greedy : List ℕ) (start : ℕ) : Type 0 where

@@ -1,5 +1,6 @@
-// The tables that the rows are worked out from: where the longest line from each start ends, how many lines greedy breaking makes of the items
-// from each start on, and how far the first lines reach. Parts of balanced breaking, behind its checks: no entry points.
+// The tables that the rows are worked out from: where the longest line from each start ends, how many lines greedy
+// breaking makes of the items from each start on, and how far the first lines reach. Parts of balanced breaking, behind
+// its checks: no entry points.
 ghost use lib.ListN.{length, getD};
 ghost use Rattle.balance_tables.specs.Tables.{fitsF, StretchOut, FitsOut, FitRange, CountsFrom, Rising, Reaches};
 ghost use mathlib.Core.Path.{_≡_};
@@ -12,7 +13,8 @@ use grid::whole::larger;
 
 pub mod pixels;
 
-// A limit as the tables take it: the most that a line of several items may measure, and whether there is any such bound.
+// A limit as the tables take it: the most that a line of several items may measure, and whether there is any such
+// bound.
 pub struct Cap {
     pub bounded: bool,
     pub most: Units,
@@ -78,7 +80,8 @@ pub fn suffix_greedy(fit: &[u32], greedy: &mut [u32])
 // Where the longest line from `start` ends: the next start. At the last item's end there is no line.
 fn past(fit: &[u32], start: usize) -> usize
     requires { ⌜ (length (now fit) ≤ 1024) × FitRange (now fit) ⌝ }
-    ensures { λ r. ⌜ (start < length (now (fit .entry)) → r ≡ getD (now (fit .entry)) start 0 + 1) × (length (now (fit .entry)) ≤ start → r ≡ start) ⌝ }
+    ensures { λ r. ⌜ (start < length (now (fit .entry)) → r ≡ getD (now (fit .entry)) start 0 + 1)
+        × (length (now (fit .entry)) ≤ start → r ≡ start) ⌝ }
 {
     if start < fit.len() {
         let end = at(fit, start);
@@ -90,7 +93,8 @@ fn past(fit: &[u32], start: usize) -> usize
 
 // How far the first lines reach: no division's line after the first `i` lines starts past cell `i`. No entry point.
 pub fn forward(fit: &[u32], reach: &mut [u32])
-    requires { ⌜ (length (now reach) ≡ length (now fit)) × (length (now fit) ≤ 1024) × FitRange (now fit) × Rising (now fit) ⌝ }
+    requires { ⌜ (length (now reach) ≡ length (now fit)) × (length (now fit) ≤ 1024) × FitRange (now fit)
+        × Rising (now fit) ⌝ }
     ensures { λ _. ⌜ Reaches (now (fit .entry)) (now (reach .exit)) ⌝ }
 {
     let mut start = 0;

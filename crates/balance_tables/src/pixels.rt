@@ -26,7 +26,8 @@ pub fn to_size(v: f32) -> Units
 
 // The sum of the items up to each, each with a gap after it. No entry point.
 pub fn add_up(sizes: &[f32], gap: Units, sums: &mut [f64])
-    requires { ⌜ (length (now sums) ≡ length (now sizes)) × (length (now sizes) ≤ 1024) × ((i : ℕ) → i < length (now sizes) → T (not (isNan (getD (now sizes) i nan)))) ⌝ }
+    requires { ⌜ (length (now sums) ≡ length (now sizes)) × (length (now sizes) ≤ 1024)
+        × ((i : ℕ) → i < length (now sizes) → T (not (isNan (getD (now sizes) i nan)))) ⌝ }
     ensures { λ _. ⌜ AddOut (now (sizes .entry)) (gap .0) (now (sums .exit)) ⌝ }
 {
     let mut acc = 0.0;

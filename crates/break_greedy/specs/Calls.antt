@@ -1,4 +1,5 @@
--- What the breaking calls take, check and answer (document 01, "Domain and refusal numbers" and "Breaking"). Assumes nothing.
+-- What the breaking calls take, check and answer (document 01, "Domain and refusal numbers" and "Breaking"). Assumes
+-- nothing.
 use mathlib.Core.Bool.{Bool}
 use mathlib.Core.List.{List, [], _∷_, _++_, map}
 use Prim.Native.Nat.{ℕ, _+_, _-_}
@@ -20,7 +21,8 @@ use Rattle.keywords.specs.declared.AvailableSpace.{AvailableSpace}
 use Rattle.break_limit.specs.Limit.{spaceNumbers}
 use Rattle.break_greedy.specs.Breaking.{limitOf, greedy}
 
--- the numbers that a breaking call takes: codes that came before the limit, the limit, the gap, and the items' outer main sizes
+-- the numbers that a breaking call takes: codes that came before the limit, the limit, the gap, and the items' outer
+-- main sizes
 abbrev pub breakingInput : List Number → AvailableSpace → Float → List Float → Input
 breakingInput codes limit gap sizes = record {
   container = codes ++ (spaceNumbers limit ++ (float Size gap ∷ []));
@@ -34,13 +36,15 @@ outerSum gap sizes = sumUpTo (λ i. natAbs (sixtyFourths (getD sizes i nan)) + n
 
 -- checks 1 to 6 of a breaking call; `room` says that the lent lists are long enough
 unfoldable pub breakingVerdict : List Number → AvailableSpace → Float → List Float → Bool → Verdict
-breakingVerdict codes limit gap sizes room = then (shape (length sizes) room) (checked (breakingInput codes limit gap sizes) (summed (outerSum gap sizes)))
+breakingVerdict codes limit gap sizes room =
+    then (shape (length sizes) room) (checked (breakingInput codes limit gap sizes) (summed (outerSum gap sizes)))
 
 -- sizes in whole sixty-fourths
 abbrev pub units : List Float → List ℤ
 units sizes = map sixtyFourths sizes
 
--- "n cells for each answer list (by line, as counts, cells past the last line get 0)", and the cells past those unchanged
+-- "n cells for each answer list (by line, as counts, cells past the last line get 0)", and the cells past those
+-- unchanged
 abbrev pub countCells : ℕ → List ℕ → List ℕ → List ℕ
 countCells n lines before = lines ++ (replicate (n - length lines) 0 ++ drop n before)
 
@@ -59,4 +63,5 @@ brokenInto (verdict.Refused why) lines n before = greedyResult (answer.Refused w
 -- the whole greedy call, with the codes that came before the limit
 abbrev pub greedyCall : List Number → AvailableSpace → Float → List Float → List ℕ → GreedyResult
 greedyCall codes limit gap sizes before =
-    brokenInto (breakingVerdict codes limit gap sizes (leb (length sizes) (length before))) (greedy (limitOf limit) (sixtyFourths gap) (units sizes)) (length sizes) before
+    brokenInto (breakingVerdict codes limit gap sizes (leb (length sizes) (length before)))
+    (greedy (limitOf limit) (sixtyFourths gap) (units sizes)) (length sizes) before

@@ -30,7 +30,8 @@ pub record Breakable (limit : AvailableSpace) (gap : Float) (sizes : List Float)
 
 -- where the line that starts at an item ends: it takes that item, and then as many as fit
 abbrev pub LineEnd : AvailableSpace → Float → List Float → ℕ → ℕ → Type 0
-LineEnd limit gap sizes start r = r ≡ start + suc (taken (limitOf limit) (sixtyFourths gap) (getD (units sizes) start (pos 0) ∷ []) (drop (suc start) (units sizes)))
+LineEnd limit gap sizes start r = r ≡ start + suc (taken (limitOf limit) (sixtyFourths gap)
+    (getD (units sizes) start (pos 0) ∷ []) (drop (suc start) (units sizes)))
 
 -- the counts of the lines in the first cells, the others unchanged
 pub record Counted (lines before : List ℕ) (r : ℕ) (after : List ℕ) : Type 0 where

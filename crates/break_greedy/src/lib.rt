@@ -19,7 +19,8 @@ use checks::Verdict;
 use keywords::AvailableSpace;
 use lists::clear_u32;
 
-// Whether a line of several items, of this size, fits: greedy breaking asks it once the limit has passed the checks. No entry point.
+// Whether a line of several items, of this size, fits: greedy breaking asks it once the limit has passed the checks. No
+// entry point.
 fn line_fits(limit: AvailableSpace, size: f32) -> bool
     requires { ⌜ LengthLimit limit ⌝ }
     ensures { λ r. ⌜ ((z : ℤ) → At 64 size z → r ≡ fits (limitOf limit) z) ⌝ }
@@ -39,7 +40,8 @@ pub fn check_breaking(
     sizes: &[f32],
     room: bool,
 ) -> Verdict
-    ensures { λ r. ⌜ ((cs : List Number) → codes .0 ≡ leastOf cs 0 → r ≡ breakingVerdict cs limit gap (now (sizes .entry)) room) ⌝ }
+    ensures { λ r. ⌜ ((cs : List Number) → codes .0 ≡ leastOf cs 0
+        → r ≡ breakingVerdict cs limit gap (now (sizes .entry)) room) ⌝ }
 {
     let shape = checks::check_shape(sizes.len(), room);
     let Verdict::Passed = shape else {
@@ -57,7 +59,8 @@ pub fn check_breaking(
     checks::check_sum(checks_list::sum_floats(sizes, gap))
 }
 
-// The end of the line that starts at an item. The sums are exact: every one is on the grid and within 2^24 sixty-fourths.
+// The end of the line that starts at an item. The sums are exact: every one is on the grid and within 2^24
+// sixty-fourths.
 fn line_end(sizes: &[f32], gap: f32, limit: AvailableSpace, start: usize) -> usize
     requires { ⌜ Breakable limit gap (now sizes) × (start < length (now sizes)) ⌝ }
     ensures { λ r. ⌜ LineEnd limit gap (now (sizes .entry)) start r ⌝ }
@@ -79,7 +82,8 @@ fn line_end(sizes: &[f32], gap: f32, limit: AvailableSpace, start: usize) -> usi
 // The counts by line, in the first cells.
 fn greedy_counts(sizes: &[f32], gap: f32, limit: AvailableSpace, counts: &mut [u32]) -> usize
     requires { ⌜ Breakable limit gap (now sizes) × (length (now sizes) ≤ length (now counts)) ⌝ }
-    ensures { λ r. ⌜ Counted (greedy (limitOf limit) (sixtyFourths gap) (units (now (sizes .entry)))) (now (counts .entry)) r (now (counts .exit)) ⌝ }
+    ensures { λ r. ⌜ Counted (greedy (limitOf limit) (sixtyFourths gap) (units (now (sizes .entry))))
+        (now (counts .entry)) r (now (counts .exit)) ⌝ }
 {
     let mut start = 0;
     let mut n = 0;
@@ -95,7 +99,8 @@ fn greedy_counts(sizes: &[f32], gap: f32, limit: AvailableSpace, counts: &mut [u
 // Greedy breaking of sizes that the checks have accepted: no entry point.
 pub fn greedy_checked(limit: AvailableSpace, gap: f32, sizes: &[f32], counts: &mut [u32]) -> usize
     requires { ⌜ Breakable limit gap (now sizes) × (length (now sizes) ≤ length (now counts)) ⌝ }
-    ensures { λ r. ⌜ Listed (length (now (sizes .entry))) (greedy (limitOf limit) (sixtyFourths gap) (units (now (sizes .entry)))) (now (counts .entry)) r (now (counts .exit)) ⌝ }
+    ensures { λ r. ⌜ Listed (length (now (sizes .entry))) (greedy (limitOf limit) (sixtyFourths gap)
+        (units (now (sizes .entry)))) (now (counts .entry)) r (now (counts .exit)) ⌝ }
 {
     let n = greedy_counts(sizes, gap, limit, counts);
     clear_u32(counts, n, sizes.len());
@@ -104,7 +109,8 @@ pub fn greedy_checked(limit: AvailableSpace, gap: f32, sizes: &[f32], counts: &m
 
 // Greedy breaking of any bits.
 pub fn greedy(limit: AvailableSpace, gap: f32, sizes: &[f32], counts: &mut [u32]) -> Answer
-    ensures { λ r. ⌜ greedyResult r (now (counts .exit)) ≡ greedyCall [] limit gap (now (sizes .entry)) (now (counts .entry)) ⌝ }
+    ensures { λ r. ⌜ greedyResult r (now (counts .exit)) ≡ greedyCall [] limit gap (now (sizes .entry))
+        (now (counts .entry)) ⌝ }
 {
     let v = check_breaking(
         checks::no_mark(),

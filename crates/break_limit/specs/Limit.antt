@@ -27,13 +27,15 @@ numberOr MaxContent maximum = maximum
 
 -- "if the container has no definite main size, lower it to the maximum"
 abbrev pub underMaximum : Query → Float → Float
-underMaximum q maximum = cond (q .«main_is_definite») (numberOr (q .available) maximum) (lowered (numberOr (q .available) maximum) maximum)
+underMaximum q maximum =
+    cond (q .«main_is_definite») (numberOr (q .available) maximum) (lowered (numberOr (q .available) maximum) maximum)
 
 -- a row, or a definite main size
 abbrev pub keepsSpace : Query → Bool
 keepsSpace q = q .«is_row» || q .«main_is_definite»
 
--- "With no maximum, a column without a definite main size turns a definite space into max-content; all else passes unchanged."
+-- "With no maximum, a column without a definite main size turns a definite space into max-content; all else passes
+-- unchanged."
 abbrev pub withoutMaximum : Query → AvailableSpace → AvailableSpace
 withoutMaximum q (Definite x) = cond (keepsSpace q) (Definite (cleaned x)) MaxContent
 withoutMaximum q MinContent = MinContent
@@ -48,7 +50,8 @@ byMaximum q (Given maximum) = Definite (cleaned (raisedTo (q .minimum) (underMax
 abbrev pub breakLimit : Query → AvailableSpace
 breakLimit q = cond (q .«known_is_definite») (byMaximum q (q .maximum)) MaxContent
 
--- ---- the numbers that the call takes, all of them the container's, whatever the answer turns on; codes come before them
+-- ---- the numbers that the call takes, all of them the container's, whatever the answer turns on; codes come before
+-- them
 
 abbrev pub spaceNumbers : AvailableSpace → List Number
 spaceNumbers (Definite x) = float Length x ∷ []
@@ -60,7 +63,11 @@ boundNumbers Absent = []
 boundNumbers (Given x) = float Size x ∷ []
 
 abbrev pub limitInput : List Number → Query → Input
-limitInput codes q = record { container = codes ++ (spaceNumbers (q .available) ++ (boundNumbers (q .minimum) ++ boundNumbers (q .maximum))); count = 0; item = λ i. [] }
+limitInput codes q = record {
+  container = codes ++ (spaceNumbers (q .available) ++ (boundNumbers (q .minimum) ++ boundNumbers (q .maximum)));
+  count = 0;
+  item = λ i. [];
+}
 
 abbrev pub limitVerdict : List Number → Query → Verdict
 limitVerdict codes q = checked (limitInput codes q) Passed

@@ -3,7 +3,8 @@ ghost use mathlib.Core.Path.{_≡_};
 ghost use mathlib.Core.List.{List};
 ghost use Rattle.checks.specs.Domain.{Number};
 ghost use Rattle.checks.specs.Marks.{leastOf};
-ghost use Rattle.break_limit.specs.Limit.{numberOr, underMaximum, keepsSpace, withoutMaximum, byMaximum, breakLimit, spaceNumbers, boundNumbers, limitVerdict, limitCall};
+ghost use Rattle.break_limit.specs.Limit.{numberOr, underMaximum, keepsSpace, withoutMaximum, byMaximum};
+ghost use Rattle.break_limit.specs.Limit.{breakLimit, spaceNumbers, boundNumbers, limitVerdict, limitCall};
 use checks::Kind;
 use checks::Mark;
 use checks::Refusal;
@@ -13,7 +14,8 @@ use keywords::AvailableSpace;
 use keywords::Bound;
 use keywords::raise_to;
 
-// What the break limit turns on: the known main size, the container's own main size, its direction, and the space and bounds on its main axis.
+// What the break limit turns on: the known main size, the container's own main size, its direction, and the space and
+// bounds on its main axis.
 pub struct Query {
     pub known_is_definite: bool,
     pub main_is_definite: bool,

@@ -1,4 +1,5 @@
-// Boundary cases of the break limit and of greedy breaking, one to a line: what they are given, and number and place, or lines and counts.
+// Boundary cases of the break limit and of greedy breaking, one to a line: what they are given, and number and place,
+// or lines and counts.
 use break_limit::BreakLimit;
 use break_limit::Query;
 use checks::Answer;

@@ -24,7 +24,8 @@ abbrev pub captureVerdict : Head → List Float → Verdict
 captureVerdict head sizes = breakingVerdict [] (head .limit) (head .gap) sizes true
 
 -- "The program does balanced breaking": the counts of the chosen division, by line
-pub record CaptureDivided (head : Head) (sizes : List Float) (before : List ℕ) (r : Reply) (after : List ℕ) : Type 0 where
+pub record CaptureDivided (head : Head) (sizes : List Float) (before : List ℕ) (r : Reply)
+    (after : List ℕ) : Type 0 where
   pub division : List ℕ
   pub balanced : Balanced (limitOf (head .limit)) (sixtyFourths (head .gap)) (units sizes) (head .minimum) division
   pub lines : r ≡ Lines (length division)

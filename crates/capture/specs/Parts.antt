@@ -1,4 +1,5 @@
--- What only the contracts of the parts cite: a breaking call's answer, and a finished reader's, as the capture's. Assumes nothing.
+-- What only the contracts of the parts cite: a breaking call's answer, and a finished reader's, as the capture's.
+-- Assumes nothing.
 use mathlib.Core.List.{List}
 use Prim.Native.Nat.{ℕ}
 use lib.Dec.{ltb}
@@ -22,4 +23,5 @@ replyOf (answer.Refused why) = Refused why
 -- the answer of a finished reader, which keeps 64 sizes, and the head as it was written
 abbrev pub AnsweredTo : Captured → List Float → List ℕ → Reply → List ℕ → Type 0
 AnsweredTo (captured.Broken place) room before r after = Refuses (Broken place) before r after
-AnsweredTo (Whole head items) room before r after = ByCount (ltb 64 items) (asRead head) (take items room) before r after
+AnsweredTo (Whole head items) room before r after =
+    ByCount (ltb 64 items) (asRead head) (take items room) before r after

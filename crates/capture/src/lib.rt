@@ -30,7 +30,8 @@ fn reply_of(a: Answer) -> Reply
 // Balanced breaking, with the room to work in.
 fn break_items(head: Head, sizes: &[f32], counts: &mut [u32]) -> Reply
     requires { ⌜ (length (now sizes) ≤ 64) × (length (now counts) ≡ 64) ⌝ }
-    ensures { λ r. ⌜ ByVerdict (captureVerdict head (now (sizes .entry))) head (now (sizes .entry)) (now (counts .entry)) r (now (counts .exit)) ⌝ }
+    ensures { λ r. ⌜ ByVerdict (captureVerdict head (now (sizes .entry))) head (now (sizes .entry))
+        (now (counts .entry)) r (now (counts .exit)) ⌝ }
 {
     let limit = head.limit;
     let mut work = [0u32; 4288];
@@ -49,7 +50,8 @@ fn break_items(head: Head, sizes: &[f32], counts: &mut [u32]) -> Reply
 // The sizes are the first of `items`, as many as are kept.
 fn answer_items(head: Head, items: usize, sizes: &[f32], counts: &mut [u32]) -> Reply
     requires { ⌜ (length (now sizes) ≡ 64) × (length (now counts) ≡ 64) ⌝ }
-    ensures { λ r. ⌜ ByCount (ltb 64 items) head (take items (now (sizes .entry))) (now (counts .entry)) r (now (counts .exit)) ⌝ }
+    ensures { λ r. ⌜ ByCount (ltb 64 items) head (take items (now (sizes .entry))) (now (counts .entry)) r
+        (now (counts .exit)) ⌝ }
 {
     if 64 < items {
         return Reply::Refused(Refusal::TooManyItems);
@@ -57,8 +59,8 @@ fn answer_items(head: Head, items: usize, sizes: &[f32], counts: &mut [u32]) -> 
     break_items(head, &sizes[..items], counts)
 }
 
-// The answer once the last byte was fed. The reader has the head as it was written: here it gets its meaning. For programs that feed a capture in
-// parts: it asks for the lists that they feed, and is no entry point.
+// The answer once the last byte was fed. The reader has the head as it was written: here it gets its meaning. For
+// programs that feed a capture in parts: it asks for the lists that they feed, and is no entry point.
 pub fn answer(r: Reader, sizes: &[f32], counts: &mut [u32]) -> Reply
     requires { ⌜ (length (now sizes) ≡ 64) × (length (now counts) ≡ 64) ⌝ }
     ensures { λ s. ⌜ AnsweredTo (finished r) (now (sizes .entry)) (now (counts .entry)) s (now (counts .exit)) ⌝ }
@@ -72,7 +74,8 @@ pub fn answer(r: Reader, sizes: &[f32], counts: &mut [u32]) -> Reply
 
 // Reads a whole capture to its answer. Nothing is asked of the bytes.
 pub fn read(bytes: &[u8], counts: &mut [u32; 64]) -> Reply
-    ensures { λ r. ⌜ CaptureAnswered (reading asRead (now (bytes .entry))) (now (counts .entry)) r (now (counts .exit)) ⌝ }
+    ensures { λ r. ⌜ CaptureAnswered (reading asRead (now (bytes .entry))) (now (counts .entry)) r
+        (now (counts .exit)) ⌝ }
     ensures { λ r. ⌜ length (now (counts .exit)) ≡ 64 ⌝ }
 {
     let mut sizes = [0.0f32; 64];

@@ -1,5 +1,6 @@
--- A reader that takes a burst at a time, and how it goes on by a byte. Only contracts of parts cite it; `said` of proofs/ says that it finds what
--- the plain reading of crate capture_format finds, the head as it was written. Assumes nothing.
+-- A reader that takes a burst at a time, and how it goes on by a byte. Only contracts of parts cite it; `said` of
+-- proofs/ says that it finds what the plain reading of crate capture_format finds, the head as it was written. Assumes
+-- nothing.
 use mathlib.Core.Path.{_≡_}
 use mathlib.Core.Logic.{_⊎_}
 use mathlib.Core.Bool.{cond}
@@ -31,11 +32,46 @@ withSizes r sizes = record { reader = r; sizes = sizes }
 
 -- the record that the bytes so far make, or their beginning, puts the reader here
 abbrev pub advanced : Parsed → Reader → List ℕ → Reader
-advanced Partial r bytes = record { stage = r .stage; place = r .place; have = r .have + 1; pending = bytes; head = r .head; items = r .items }
-advanced parsed.Broken r bytes = record { stage = stage.Broken; place = r .place; have = 0; pending = bytes; head = r .head; items = r .items }
-advanced (Head h) r bytes = record { stage = Items; place = r .place + 12; have = 0; pending = bytes; head = h; items = r .items }
-advanced (Item x) r bytes = record { stage = Items; place = r .place + 5; have = 0; pending = bytes; head = r .head; items = r .items + 1 }
-advanced End r bytes = record { stage = Ended; place = r .place + 1; have = 0; pending = bytes; head = r .head; items = r .items }
+advanced Partial r bytes = record {
+  stage = r .stage;
+  place = r .place;
+  have = r .have + 1;
+  pending = bytes;
+  head = r .head;
+  items = r .items;
+}
+advanced parsed.Broken r bytes = record {
+  stage = stage.Broken;
+  place = r .place;
+  have = 0;
+  pending = bytes;
+  head = r .head;
+  items = r .items;
+}
+advanced (Head h) r bytes = record {
+  stage = Items;
+  place = r .place + 12;
+  have = 0;
+  pending = bytes;
+  head = h;
+  items = r .items;
+}
+advanced (Item x) r bytes = record {
+  stage = Items;
+  place = r .place + 5;
+  have = 0;
+  pending = bytes;
+  head = r .head;
+  items = r .items + 1;
+}
+advanced End r bytes = record {
+  stage = Ended;
+  place = r .place + 1;
+  have = 0;
+  pending = bytes;
+  head = r .head;
+  items = r .items;
+}
 
 -- the sizes of the first 64 items are kept
 abbrev pub kept : Parsed → ℕ → List Float → List Float
@@ -77,7 +113,8 @@ byStage stage.Broken r = captured.Broken (r .place)
 abbrev pub finished : Reader → Captured
 finished r = byStage (r .stage) r
 
--- what holds of every reader that comes from `start` and `feed`: between records, or within one that its bytes so far begin
+-- what holds of every reader that comes from `start` and `feed`: between records, or within one that its bytes so far
+-- begin
 pub record SoundReader (r : Reader) : Type 0 where
   pub cells : length (r .pending) ≡ 12
   pub midway : (r .have ≡ 0) ⊎ (front (r .stage) (take (r .have) (r .pending)) ≡ Partial)

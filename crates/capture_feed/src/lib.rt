@@ -2,7 +2,8 @@
 ghost use mathlib.Core.Path.{_≡_};
 ghost use Prim.Native.Nat.{_+_, _≤_, _^_};
 ghost use lib.ListN.{length};
-ghost use Rattle.capture_feed.specs.Machine.{withSizes, advanced, kept, stepped, fed, started, finished, ReaderReady};
+ghost use Rattle.capture_feed.specs.Machine.{withSizes, advanced, kept, stepped, fed, started, finished};
+ghost use Rattle.capture_feed.specs.Machine.{ReaderReady};
 use capture_format::Head;
 use capture_format::Parsed;
 use capture_format::Stage;
@@ -26,7 +27,8 @@ pub struct Reader {
 // What a capture says, once its last byte was fed.
 pub enum Captured {
     Whole { head: Head, items: usize },
-    // The offset where the faulty record starts. A record that the capture's end cuts is faulty, and so is a missing one.
+    // The offset where the faulty record starts. A record that the capture's end cuts is faulty, and so is a missing
+    // one.
     Broken(u64),
 }
 
@@ -126,11 +128,12 @@ fn step(r: Reader, byte: u8, sizes: &mut [f32; 64]) -> Reader
     advance(r, pending, found)
 }
 
-// Takes the next bytes of a capture. What bursts they come in makes no difference. It asks for a reader that came from `start` and `feed`,
-// and is no entry point.
+// Takes the next bytes of a capture. What bursts they come in makes no difference. It asks for a reader that came from
+// `start` and `feed`, and is no entry point.
 pub fn feed(from: Reader, burst: &[u8], sizes: &mut [f32; 64]) -> Reader
     requires { ⌜ ReaderReady from (length (now burst)) ⌝ }
-    ensures { λ r. ⌜ withSizes r (now (sizes .exit)) ≡ fed (withSizes from (now (sizes .entry))) (now (burst .entry)) ⌝ }
+    ensures { λ r. ⌜ withSizes r (now (sizes .exit)) ≡ fed (withSizes from (now (sizes .entry)))
+        (now (burst .entry)) ⌝ }
 {
     let mut r = from;
     let mut i = 0;

@@ -1,4 +1,5 @@
--- Document 01, "Records for the program": the records of a capture, one by one. A byte is a number below 256. Assumes nothing.
+-- Document 01, "Records for the program": the records of a capture, one by one. A byte is a number below 256. Assumes
+-- nothing.
 use mathlib.Core.Bool.{Bool, true, false}
 use mathlib.Core.List.{List}
 use Prim.Native.Nat.{ℕ, _+_, _*_}
@@ -21,8 +22,8 @@ word bytes i = half bytes i + 65536 * half bytes (i + 2)
 abbrev pub float : List ℕ → ℕ → Float
 float bytes i = ofBits binary32 (word bytes i)
 
--- "Kind 1, 11 bytes: limit kind .., limit f32, gap f32, minimum u16". `spaceOf` is "limit kind (0 definite, 1 min, 2 max)", and "The limit field
--- is read only under kind 0"
+-- "Kind 1, 11 bytes: limit kind .., limit f32, gap f32, minimum u16". `spaceOf` is "limit kind (0 definite, 1 min, 2
+-- max)", and "The limit field is read only under kind 0"
 abbrev pub headOf : List ℕ → Head
 headOf bytes = record { limit = spaceOf (getD bytes 1 0) (float bytes 2); gap = float bytes 6; minimum = half bytes 10 }
 
@@ -37,7 +38,8 @@ kind bytes = getD bytes 0 0
 unfoldable pub firstFront : List ℕ → Parsed
 firstFront bytes =
     pick (eqb (kind bytes) 1)
-    (pick (leb (getD bytes 1 0) 2) (pick (leb 12 (length bytes)) (parsed.Head (headOf bytes)) parsed.Partial) parsed.Broken)
+    (pick (leb (getD bytes 1 0) 2) (pick (leb 12 (length bytes)) (parsed.Head (headOf bytes)) parsed.Partial)
+    parsed.Broken)
     parsed.Broken
 
 -- the same, where an item or the end is due: "Kind 2, 4 bytes: size f32. Kind 3: end."

@@ -1,4 +1,5 @@
--- Document 01, "Records for the program": what a whole capture says, and where a broken one breaks. Document 02, Two: what a head means. Assumes nothing.
+-- Document 01, "Records for the program": what a whole capture says, and where a broken one breaks. Document 02, Two:
+-- what a head means. Assumes nothing.
 use mathlib.Core.List.{List, [], _∷_}
 use Prim.Native.Nat.{ℕ, zero, suc, _+_}
 use lib.ListN.{length, drop}
@@ -24,7 +25,8 @@ unfoldable pub ending : ℕ → List ℕ → Rest
 ending place [] = sizes []
 ending place (b ∷ bytes) = faulty place
 
--- what the record at `place` makes of the rest: an item adds its size, the end ends; "Anything else is .. the byte offset where the faulty record starts"
+-- what the record at `place` makes of the rest: an item adds its size, the end ends; "Anything else is .. the byte
+-- offset where the faulty record starts"
 abbrev pub byRecord : Parsed → ℕ → Rest → Rest → Rest
 byRecord (parsed.Item size) place next end = more size next
 byRecord parsed.End place next end = end
@@ -32,11 +34,13 @@ byRecord parsed.Partial place next end = faulty place
 byRecord parsed.Broken place next end = faulty place
 byRecord (parsed.Head head) place next end = faulty place
 
--- the first records after kind 1, at most `most` of them; where none stands, the place is "the input's length for a missing end"
+-- the first records after kind 1, at most `most` of them; where none stands, the place is "the input's length for a
+-- missing end"
 unfoldable pub itemsOf : ℕ → ℕ → List ℕ → Rest
 unfolding ending
 itemsOf zero place bytes = faulty place
-itemsOf (suc most) place bytes = byRecord (laterFront bytes) place (itemsOf most (place + 5) (drop 5 bytes)) (ending (place + 1) (drop 1 bytes))
+itemsOf (suc most) place bytes =
+    byRecord (laterFront bytes) place (itemsOf most (place + 5) (drop 5 bytes)) (ending (place + 1) (drop 1 bytes))
 
 -- items, and the end: there are no more records than bytes
 unfoldable pub items : ℕ → List ℕ → Rest
@@ -52,7 +56,8 @@ abbrev pub under : Head → Rest → Reading
 under head (sizes rest) = whole head rest
 under head (faulty place) = broken place
 
--- a capture whose first record is kind 1 is read on under what that record means; any other breaks where that record starts, at 0
+-- a capture whose first record is kind 1 is read on under what that record means; any other breaks where that record
+-- starts, at 0
 abbrev pub byHead : (Head → Head) → Parsed → Rest → Reading
 byHead meaning (parsed.Head head) rest = under (meaning head) rest
 byHead meaning parsed.Partial rest = broken 0
@@ -75,7 +80,8 @@ asWritten head = head
 abbrev pub oneEach : Float → Head
 oneEach gap = record { limit = MaxContent; gap = gap; minimum = 65535 }
 
--- "Captures that hold it still open": those with limit kind 1, which is min-content, are read so, and all others as written
+-- "Captures that hold it still open": those with limit kind 1, which is min-content, are read so, and all others as
+-- written
 abbrev pub bySpace : AvailableSpace → Head → Head
 bySpace MinContent head = oneEach (head .gap)
 bySpace MaxContent head = head

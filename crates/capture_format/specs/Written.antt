@@ -1,6 +1,7 @@
--- Document 01, "Records for the program", from the writer's side: the bytes of a capture of given numbers; document 02, Two: which of them a writer may
--- produce. Only theorems cite it, of proofs/Format.antt and of crate capture: the readable captures are those that `reading` accepts, each with its
--- numbers, and no others; the writable ones mean what was written. Assumes nothing.
+-- Document 01, "Records for the program", from the writer's side: the bytes of a capture of given numbers; document 02,
+-- Two: which of them a writer may produce. Only theorems cite it, of proofs/Format.antt and of crate capture: the
+-- readable captures are those that `reading` accepts, each with its numbers, and no others; the writable ones mean what
+-- was written. Assumes nothing.
 use mathlib.Core.Path.{_≡_}
 use mathlib.Core.List.{List, [], _∷_, _++_, map}
 use Prim.Native.Nat.{ℕ, zero, suc, _/_, _%_, _<_, _≤_, _^_}
@@ -52,7 +53,11 @@ captureBytes c = headBytes c ++ (itemBytes (c .sizes) ++ (3 ∷ []))
 
 -- what the numbers say
 abbrev pub headSaid : Numbers → Head
-headSaid c = record { limit = spaceOf (c .limit-kind) (ofBits binary32 (c .limit)); gap = ofBits binary32 (c .gap); minimum = c .minimum }
+headSaid c = record {
+  limit = spaceOf (c .limit-kind) (ofBits binary32 (c .limit));
+  gap = ofBits binary32 (c .gap);
+  minimum = c .minimum;
+}
 
 abbrev pub sizesSaid : Numbers → List Float
 sizesSaid c = map (ofBits binary32) (c .sizes)

@@ -1,4 +1,5 @@
-// The records of a capture (document 01, "Records for the program"): the one place that knows the format. `parse` asks for a byte: no entry point.
+// The records of a capture (document 01, "Records for the program"): the one place that knows the format. `parse` asks
+// for a byte: no entry point.
 ghost use mathlib.Core.Path.{_≡_};
 ghost use Prim.Native.Nat.{_+_, _≤_, _<_};
 ghost use lib.ListN.{length};
@@ -140,7 +141,8 @@ fn one_each(gap: f32) -> Head
     }
 }
 
-// What a head means (document 02, Two). Min-content is not written any more; old captures that hold it mean one item a line.
+// What a head means (document 02, Two). Min-content is not written any more; old captures that hold it mean one item a
+// line.
 pub fn as_read(head: Head) -> Head
     ensures { λ r. ⌜ r ≡ asRead head ⌝ }
 {

@@ -1,4 +1,5 @@
--- What a turn of the program's loop leaves: the reader, fed a burst of as many bytes as the turn says. Only contracts of parts cite it. Assumes nothing.
+-- What a turn of the program's loop leaves: the reader, fed a burst of as many bytes as the turn says. Only contracts
+-- of parts cite it. Assumes nothing.
 use mathlib.Core.Path.{_≡_}
 use mathlib.Core.List.{List}
 use Prim.Native.Nat.{ℕ, _≤_}

@@ -36,7 +36,8 @@ fn print(reply: Reply, counts: &[u32])
     io::write_all(STDOUT_FILENO, &text[..n]);
 }
 
-// A proved loop has to end, and nothing says that the input does. So the loop counts its turns down, from a number that no run uses up.
+// A proved loop has to end, and nothing says that the input does. So the loop counts its turns down, from a number that
+// no run uses up.
 fn main() {
     let mut sizes = [0.0f32; 64];
     let mut counts = [0u32; 64];

@@ -1,4 +1,5 @@
-// Captures that reach every answer, each with its name: the bytes are written out, and the answer is as the program prints it.
+// Captures that reach every answer, each with its name: the bytes are written out, and the answer is as the program
+// prints it.
 ghost use Prim.Native.Nat.{_≤_};
 
 fn show(name: &[u8], bytes: &[u8]) {

@@ -2,7 +2,8 @@
 ghost use mathlib.Core.List.{[], _∷_};
 ghost use Prim.Native.Nat.{_+_, _*_, _≤_, _<_};
 ghost use lib.ListN.{length, take};
-ghost use Rattle.capture_text.specs.Text.{decimalTo, decimal, spaced, placeText, headText, refusalText, replyPaper, titleText, linesText, textOf};
+ghost use Rattle.capture_text.specs.Text.{decimalTo, decimal, spaced, placeText, headText, refusalText};
+ghost use Rattle.capture_text.specs.Text.{replyPaper, titleText, linesText, textOf};
 ghost use Rattle.capture_text.specs.Parts.{Put};
 ghost use Rattle.checks.specs.Domain.{whereOf, refusalOf};
 ghost use Rattle.capture_text.specs.declared.Reply.the-variants.{Lines};
@@ -103,7 +104,12 @@ fn put_head(number: u8, out: &mut [u8]) -> usize
 
 fn put_refusal(number: u8, place: Place, out: &mut [u8]) -> usize
     requires { ⌜ (number < 8) × (36 ≤ length (now out)) ⌝ }
-    ensures { λ r. ⌜ Put (refusalText (record { number = number; place = whereOf place; lines = 0; rounds = 0 })) (now (out .entry)) (now (out .exit)) 0 r ⌝ }
+    ensures { λ r. ⌜ Put (refusalText (record {
+      number = number;
+      place = whereOf place;
+      lines = 0;
+      rounds = 0;
+    })) (now (out .entry)) (now (out .exit)) 0 r ⌝ }
 {
     let a = put_head(number, out);
     let b = put_place(place, out, a);
@@ -143,7 +149,8 @@ fn put_first(n: usize, counts: &[u32], out: &mut [u8], at: usize) -> usize
 
 fn put_lines(lines: u32, counts: &[u32], out: &mut [u8]) -> usize
     requires { ⌜ 43 + 21 * length (now counts) ≤ length (now out) ⌝ }
-    ensures { λ r. ⌜ Put (linesText (replyPaper (Lines lines)) (now (counts .entry))) (now (out .entry)) (now (out .exit)) 0 r ⌝ }
+    ensures { λ r. ⌜ Put (linesText (replyPaper (Lines lines)) (now (counts .entry))) (now (out .entry))
+        (now (out .exit)) 0 r ⌝ }
 {
     let a = put_title(lines, out);
     let b = put_first(lines as usize, counts, out, a);

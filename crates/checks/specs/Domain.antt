@@ -1,4 +1,5 @@
--- Document 01, "Domain and refusal numbers", in its own order: what a number may be, the six checks, and what an answer says. Assumes nothing.
+-- Document 01, "Domain and refusal numbers", in its own order: what a number may be, the six checks, and what an answer
+-- says. Assumes nothing.
 use mathlib.Core.Bool.{Bool, true, false, not, cond, _&&_, _||_}
 use mathlib.Core.List.{List, [], _∷_}
 use Prim.Native.Nat.{ℕ, zero, suc}
@@ -11,7 +12,8 @@ use Rattle.checks.specs.declared.Kind.the-variants.{Length, Margin, Size
 use Rattle.checks.specs.declared.Place.{Place}
 use Rattle.checks.specs.declared.Place.the-variants.{Container, At}
 use Rattle.checks.specs.declared.Refusal.{Refusal}
-use Rattle.checks.specs.declared.Refusal.the-variants.{TooManyItems, TooLittleRoom, NotFinite, OffGrid, OutOfRange, SumTooLarge}
+use Rattle.checks.specs.declared.Refusal.the-variants.{TooManyItems, TooLittleRoom, NotFinite, OffGrid}
+use Rattle.checks.specs.declared.Refusal.the-variants.{OutOfRange, SumTooLarge}
 use Rattle.checks.specs.declared.Verdict.{Verdict}
 use Rattle.checks.specs.declared.Verdict.the-variants.{Passed}
 use Rattle.checks.specs.declared.Verdict.the-variants as verdict
@@ -21,7 +23,8 @@ use Rattle.checks.specs.declared.Answer.the-variants as answer
 
 -- ---- the numbers
 
--- A number that a call takes: a float of some kind; or, as `code most c`, the code c, which is to be one of 0 to `most`.
+-- A number that a call takes: a float of some kind; or, as `code most c`, the code c, which is to be one of 0 to
+-- `most`.
 pub data Number : Type 0 where
   float : Kind → Float → Number
   code : ℕ → ℕ → Number
@@ -38,8 +41,9 @@ gridded Worked = false
 abbrev pub notBelow0 : Float → Bool
 notBelow0 x = le (ofBits binary32 0) x
 
--- "Lengths, .. have magnitude at most 262,144 px, margins 131,072. Gaps, .. are at least 0. .. Grow and shrink lie in 0 to 1,024, any float. ..
--- Worked-out targets and line sizes handed to a later step need only be finite (3) and at most 16,777,216 px in magnitude (5)."
+-- "Lengths, .. have magnitude at most 262,144 px, margins 131,072. Gaps, .. are at least 0. .. Grow and shrink lie in 0
+-- to 1,024, any float. .. Worked-out targets and line sizes handed to a later step need only be finite (3) and at most
+-- 16,777,216 px in magnitude (5)."
 unfoldable pub inRange : Kind → Float → Bool
 inRange Length x = within 262144 x
 inRange Margin x = within 131072 x
@@ -91,15 +95,18 @@ unfoldable pub check : (Number → Bool) → (Place → Refusal) → Input → V
 unfolding any first
 check fails refusal input rest =
     let i = first (λ k. any fails (input .item k)) (input .count) in
-    orElse (any fails (input .container)) (verdict.Refused (refusal Container)) (orElse (ltb i (input .count)) (verdict.Refused (refusal (At i))) rest)
+    orElse (any fails (input .container)) (verdict.Refused (refusal Container))
+    (orElse (ltb i (input .count)) (verdict.Refused (refusal (At i))) rest)
 
 -- checks 3, 4 and 5 in that order, each over the whole input, and then the rest
 abbrev pub checked : Input → Verdict → Verdict
-checked input rest = check notFinite NotFinite input (check offGrid OffGrid input (check outOfRange OutOfRange input rest))
+checked input rest =
+    check notFinite NotFinite input (check offGrid OffGrid input (check outOfRange OutOfRange input rest))
 
 -- checks 1 and 2: "an input list has more than 1,024 items"; "lists of unequal length, or too little lent room"
 abbrev pub shape : ℕ → Bool → Verdict
-shape longest room = orElse (ltb 1024 longest) (verdict.Refused TooManyItems) (orElse (not room) (verdict.Refused TooLittleRoom) Passed)
+shape longest room =
+    orElse (ltb 1024 longest) (verdict.Refused TooManyItems) (orElse (not room) (verdict.Refused TooLittleRoom) Passed)
 
 -- check 6: the sum over items of (|outer main size| + gap), in sixty-fourths, "is at most 16,777,216"
 abbrev pub summed : ℕ → Verdict

@@ -16,6 +16,8 @@ floatAt kind xs i = float kind (getD xs i nan) ∷ []
 abbrev pub codeAt : ℕ → List ℕ → ℕ → List Number
 codeAt most codes i = code most (getD codes i 0) ∷ []
 
--- a code, 0 or 1, and the float beside it where the code is `givenCode`: a margin where it is not auto, a maximum where there is one
+-- a code, 0 or 1, and the float beside it where the code is `givenCode`: a margin where it is not auto, a maximum where
+-- there is one
 abbrev pub besideAt : Kind → ℕ → List Float → List ℕ → ℕ → List Number
-besideAt kind givenCode xs codes i = code 1 (getD codes i 0) ∷ optional (eqb (getD codes i 0) givenCode) (float kind (getD xs i nan))
+besideAt kind givenCode xs codes i =
+    code 1 (getD codes i 0) ∷ optional (eqb (getD codes i 0) givenCode) (float kind (getD xs i nan))

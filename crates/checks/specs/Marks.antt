@@ -1,6 +1,7 @@
--- Marks: the first of checks 3, 4 and 5 that a number fails, and its place, in one number, so that the least mark is the refusal that comes
--- first. Only contracts of parts, the checks, and the theorems `accepted` and `line-reach` cite it; `judged-checked` of proofs/ says that it is document 01's order of checks. Beside them
--- what passing the checks says of a number and of a whole input. Assumes nothing.
+-- Marks: the first of checks 3, 4 and 5 that a number fails, and its place, in one number, so that the least mark is
+-- the refusal that comes first. Only contracts of parts, the checks, and the theorems `accepted` and `line-reach` cite
+-- it; `judged-checked` of proofs/ says that it is document 01's order of checks. Beside them what passing the checks
+-- says of a number and of a whole input. Assumes nothing.
 use mathlib.Core.Path.{_≡_}
 use mathlib.Core.Bool.{true, false, cond}
 use mathlib.Core.List.{List, [], _∷_}
@@ -43,7 +44,9 @@ placeOf (suc i) = At i
 
 -- what the least mark says
 unfoldable pub judged : ℕ → Verdict
-judged n = orElse (ltb n 2048) (Refused (NotFinite (placeOf n))) (orElse (ltb n 4096) (Refused (OffGrid (placeOf (n - 2048)))) (orElse (ltb n 6144) (Refused (OutOfRange (placeOf (n - 4096)))) Passed))
+judged n = orElse (ltb n 2048) (Refused (NotFinite (placeOf n)))
+    (orElse (ltb n 4096) (Refused (OffGrid (placeOf (n - 2048))))
+    (orElse (ltb n 6144) (Refused (OutOfRange (placeOf (n - 4096)))) Passed))
 
 -- every number of the list is a length
 pub record Lengths (xs : List Float) : Type 0 where

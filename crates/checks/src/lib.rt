@@ -1,6 +1,7 @@
-// Refusals 1 to 6 of document 01, "Domain and refusal numbers": what a number may be, which refusal comes first, and what a call answers.
-// A call takes the marks of its numbers (crates `checks_number` and `checks_list`), keeps the least, and has it judged once, before its first store.
-// These are parts for calls of other crates to compose, and no entry points.
+// Refusals 1 to 6 of document 01, "Domain and refusal numbers": what a number may be, which refusal comes first, and
+// what a call answers. A call takes the marks of its numbers (crates `checks_number` and `checks_list`), keeps the
+// least, and has it judged once, before its first store. These are parts for calls of other crates to compose, and no
+// entry points.
 ghost use mathlib.Core.Path.{_≡_};
 ghost use Prim.Native.Nat.{min};
 ghost use Rattle.checks.specs.Domain.{shape, summed};
@@ -48,7 +49,8 @@ pub enum Answer {
     Refused(Refusal),
 }
 
-// The first check that a number fails, and its place, in one number, so that the least of all marks is the refusal that comes first.
+// The first check that a number fails, and its place, in one number, so that the least of all marks is the refusal that
+// comes first.
 pub struct Mark(pub u32);
 
 // The mark of a number that no check refuses.
@@ -92,7 +94,8 @@ fn place_of(n: u32) -> Place
     }
 }
 
-// Checks 1 and 2: `longest` is the length of the longest input list, and `room` says that the lists are of one length and that there is room.
+// Checks 1 and 2: `longest` is the length of the longest input list, and `room` says that the lists are of one length
+// and that there is room.
 pub fn check_shape(longest: usize, room: bool) -> Verdict
     ensures { λ r. ⌜ r ≡ shape longest room ⌝ }
 {

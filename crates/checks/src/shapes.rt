@@ -19,7 +19,8 @@ pub fn has_room(n: usize, room: usize, rest: bool) -> bool
     if n <= room { rest } else { false }
 }
 
-// Whether the two lists that balanced breaking works in are long enough for n items. No entry point: check 1 comes before.
+// Whether the two lists that balanced breaking works in are long enough for n items. No entry point: check 1 comes
+// before.
 pub fn has_work_room(n: usize, work: usize, sums: usize) -> bool
     requires { ⌜ n ≤ 1024 ⌝ }
     ensures { λ r. ⌜ r ≡ workRoom n work sums ⌝ }

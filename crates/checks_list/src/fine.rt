@@ -1,5 +1,5 @@
-// Whether the numbers of a list are all fine. Each loop goes to the list's end and has no branch inside, so that the compiler takes several
-// numbers at a time. No entry points.
+// Whether the numbers of a list are all fine. Each loop goes to the list's end and has no branch inside, so that the
+// compiler takes several numbers at a time. No entry points.
 ghost use mathlib.Core.Path.{_≡_};
 ghost use mathlib.Core.Bool.{not, _||_};
 ghost use lib.Dec.{eqb, leb};
@@ -27,7 +27,8 @@ pub fn are_fine(kind: Kind, xs: &[f32]) -> bool
 // Whether those are whose code is `taken`. No entry point.
 pub fn are_fine_where<'a>(kind: Kind, xs: &'a [f32], codes: &'a [u32], taken: u32) -> bool
     requires { ⌜ length (now codes) ≡ length (now xs) ⌝ }
-    ensures { λ r. ⌜ r ≡ every (λ i. not (eqb (getD (now (codes .entry)) i 0) taken) || fine (float kind (getD (now (xs .entry)) i nan))) (length (now (xs .entry))) ⌝ }
+    ensures { λ r. ⌜ r ≡ every (λ i. not (eqb (getD (now (codes .entry)) i 0) taken) || fine
+        (float kind (getD (now (xs .entry)) i nan))) (length (now (xs .entry))) ⌝ }
 {
     let b = checks_number::bounds_of(kind);
     let mut ok = true;

@@ -1,5 +1,6 @@
-// Checks 3 to 5, and the sum of check 6, over whole lists of items' numbers (document 01, "Domain and refusal numbers").
-// Parts for calls of other crates to compose, and no entry points: check 1 has been made, and check 2 of lists that stand beside each other.
+// Checks 3 to 5, and the sum of check 6, over whole lists of items' numbers (document 01, "Domain and refusal
+// numbers"). Parts for calls of other crates to compose, and no entry points: check 1 has been made, and check 2 of
+// lists that stand beside each other.
 ghost use mathlib.Core.Path.{_≡_};
 ghost use Prim.Native.Nat.{_+_, _≤_};
 ghost use lib.Dec.{eqb};
@@ -23,11 +24,12 @@ use checks::no_mark;
 mod fine; // fine.rt: whether a list has no mark at all
 pub mod whole; // whole.rt: the marks of whole lists, as numbers that the items have
 
-// The least mark of a list of items' numbers. Most lists have none, which is soon told of all numbers together; only then are they gone
-// through one by one. No entry point.
+// The least mark of a list of items' numbers. Most lists have none, which is soon told of all numbers together; only
+// then are they gone through one by one. No entry point.
 pub fn mark_floats(kind: Kind, xs: &[f32]) -> Mark
     requires { ⌜ length (now xs) ≤ 1024 ⌝ }
-    ensures { λ r. ⌜ r .0 ≡ leastUpTo (λ i. mark (float kind (getD (now (xs .entry)) i nan)) (i + 1)) (length (now (xs .entry))) ⌝ }
+    ensures { λ r. ⌜ r .0 ≡ leastUpTo (λ i. mark (float kind (getD (now (xs .entry)) i nan)) (i + 1))
+        (length (now (xs .entry))) ⌝ }
 {
     if are_fine(kind, xs) {
         return no_mark();
@@ -44,7 +46,8 @@ pub fn mark_floats(kind: Kind, xs: &[f32]) -> Mark
 // The least mark of the items' numbers whose code is `taken`. No entry point.
 pub fn mark_floats_where<'a>(kind: Kind, xs: &'a [f32], codes: &'a [u32], taken: u32) -> Mark
     requires { ⌜ (length (now xs) ≤ 1024) × (length (now codes) ≡ length (now xs)) ⌝ }
-    ensures { λ r. ⌜ r .0 ≡ leastUpTo (λ i. leastOf (optional (eqb (getD (now (codes .entry)) i 0) taken) (float kind (getD (now (xs .entry)) i nan))) (i + 1)) (length (now (xs .entry))) ⌝ }
+    ensures { λ r. ⌜ r .0 ≡ leastUpTo (λ i. leastOf (optional (eqb (getD (now (codes .entry)) i 0) taken)
+        (float kind (getD (now (xs .entry)) i nan))) (i + 1)) (length (now (xs .entry))) ⌝ }
 {
     if are_fine_where(kind, xs, codes, taken) {
         return no_mark();
@@ -65,7 +68,8 @@ pub fn mark_floats_where<'a>(kind: Kind, xs: &'a [f32], codes: &'a [u32], taken:
 // The least mark of a list of codes, each one of 0 to `most`. No entry point.
 pub fn mark_codes(most: u32, codes: &[u32]) -> Mark
     requires { ⌜ length (now codes) ≤ 1024 ⌝ }
-    ensures { λ r. ⌜ r .0 ≡ leastUpTo (λ i. mark (code most (getD (now (codes .entry)) i 0)) (i + 1)) (length (now (codes .entry))) ⌝ }
+    ensures { λ r. ⌜ r .0 ≡ leastUpTo (λ i. mark (code most (getD (now (codes .entry)) i 0)) (i + 1))
+        (length (now (codes .entry))) ⌝ }
 {
     if are_named(most, codes) {
         return no_mark();
@@ -82,7 +86,8 @@ pub fn mark_codes(most: u32, codes: &[u32]) -> Mark
 // The sum of check 6 over a list of lengths. No entry point.
 pub fn sum_floats(xs: &[f32], gap: f32) -> u64
     requires { ⌜ (length (now xs) ≤ 1024) × Length gap × Lengths (now xs) ⌝ }
-    ensures { λ r. ⌜ r ≡ sumUpTo (λ i. natAbs (sixtyFourths (getD (now (xs .entry)) i nan)) + natAbs (sixtyFourths gap)) (length (now (xs .entry))) ⌝ }
+    ensures { λ r. ⌜ r ≡ sumUpTo (λ i. natAbs (sixtyFourths (getD (now (xs .entry)) i nan)) + natAbs (sixtyFourths gap))
+        (length (now (xs .entry))) ⌝ }
 {
     let g = grid::to_sixtyfourths(gap);
     let mut total: u64 = 0;

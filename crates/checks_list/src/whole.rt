@@ -11,7 +11,8 @@ use checks::Mark;
 // Every item's float of one kind. No entry point.
 pub fn mark_list(kind: Kind, xs: &[f32]) -> Mark
     requires { ⌜ length (now xs) ≤ 1024 ⌝ }
-    ensures { λ r. ⌜ r .0 ≡ leastUpTo (λ i. leastOf (floatAt kind (now (xs .entry)) i) (i + 1)) (length (now (xs .entry))) ⌝ }
+    ensures { λ r. ⌜ r .0 ≡ leastUpTo (λ i. leastOf (floatAt kind (now (xs .entry)) i) (i + 1))
+        (length (now (xs .entry))) ⌝ }
 {
     crate::mark_floats(kind, xs)
 }
@@ -19,7 +20,8 @@ pub fn mark_list(kind: Kind, xs: &[f32]) -> Mark
 // Every item's code, one of 0 to `most`. No entry point.
 pub fn mark_code_list(most: u32, codes: &[u32]) -> Mark
     requires { ⌜ length (now codes) ≤ 1024 ⌝ }
-    ensures { λ r. ⌜ r .0 ≡ leastUpTo (λ i. leastOf (codeAt most (now (codes .entry)) i) (i + 1)) (length (now (codes .entry))) ⌝ }
+    ensures { λ r. ⌜ r .0 ≡ leastUpTo (λ i. leastOf (codeAt most (now (codes .entry)) i) (i + 1))
+        (length (now (codes .entry))) ⌝ }
 {
     crate::mark_codes(most, codes)
 }
@@ -27,7 +29,8 @@ pub fn mark_code_list(most: u32, codes: &[u32]) -> Mark
 // Every item's code, 0 or 1, and the float beside it where the code is `taken`. No entry point.
 pub fn mark_beside<'a>(kind: Kind, xs: &'a [f32], codes: &'a [u32], taken: u32) -> Mark
     requires { ⌜ (length (now xs) ≤ 1024) × (length (now codes) ≡ length (now xs)) ⌝ }
-    ensures { λ r. ⌜ r .0 ≡ leastUpTo (λ i. leastOf (besideAt kind taken (now (xs .entry)) (now (codes .entry)) i) (i + 1)) (length (now (xs .entry))) ⌝ }
+    ensures { λ r. ⌜ r .0 ≡ leastUpTo (λ i. leastOf (besideAt kind taken (now (xs .entry)) (now (codes .entry)) i)
+        (i + 1)) (length (now (xs .entry))) ⌝ }
 {
     checks::least(
         crate::mark_codes(1, codes),

@@ -1,4 +1,5 @@
--- The table of kinds that the code goes by, and the question that it asks of a number first. Only contracts of parts cite it. Assumes nothing.
+-- The table of kinds that the code goes by, and the question that it asks of a number first. Only contracts of parts
+-- cite it. Assumes nothing.
 use mathlib.Core.Bool.{Bool, true, false, not, _||_}
 use Prim.Native.Nat.{ℕ}
 use lib.IntN.{pos}
@@ -15,7 +16,8 @@ px n = ofInt binary32 (pos n)
 abbrev pub between : Float → Float → Bool → Bounds
 between least greatest unheld = record { low = least; high = greatest; free = unheld }
 
--- the least and the greatest number of a kind, and whether it is free of the grid: `in-bounds` of proofs/ says that this is `inRange`
+-- the least and the greatest number of a kind, and whether it is free of the grid: `in-bounds` of proofs/ says that
+-- this is `inRange`
 abbrev pub boundsOf : Kind → Bounds
 boundsOf Length = between (neg (px 262144)) (px 262144) false
 boundsOf Margin = between (neg (px 131072)) (px 131072) false

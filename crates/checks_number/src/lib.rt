@@ -48,7 +48,8 @@ fn in_range(b: Bounds, x: f32) -> bool
     (x <= b.high) & (x >= b.low)
 }
 
-// Whether no check refuses x: what is in range is finite. No branch, so that a list is tested several numbers at a time.
+// Whether no check refuses x: what is in range is finite. No branch, so that a list is tested several numbers at a
+// time.
 pub fn is_fine(b: Bounds, x: f32) -> bool
     ensures { λ r. ⌜ ((kind : Kind) → b ≡ boundsOf kind → r ≡ fine (float kind x)) ⌝ }
 {

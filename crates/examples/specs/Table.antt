@@ -1,6 +1,6 @@
--- P1 TO P15 of document 01, one table: a row has a case's inputs and then document 01's answers, lengths in whole pixels, and
--- `RowHolds` is what it claims of the definitions that the contracts cite: they give these answers and no others. `table-holds` of proofs/Table.antt
--- is the proof. Assumes nothing.
+-- P1 TO P15 of document 01, one table: a row has a case's inputs and then document 01's answers, lengths in whole
+-- pixels, and `RowHolds` is what it claims of the definitions that the contracts cite: they give these answers and no
+-- others. `table-holds` of proofs/Table.antt is the proof. Assumes nothing.
 use mathlib.Core.Path.{_≡_}
 use mathlib.Core.Bool.{false}
 use mathlib.Core.List.{List, [], _∷_, _++_, map}
@@ -33,7 +33,16 @@ float n = ofInt binary32 (pos n)
 
 -- an item to be flexed: base, maximum, grow and shrink; its minimum, padding, border and margins are 0
 unfoldable pub flexible : Float → Float → Float → Float → Item
-flexible base maximum grow shrink = record { base = base; minimum = float 0; maximum = maximum; edges = float 0; grow = grow; shrink = shrink; start = float 0; end = float 0 }
+flexible base maximum grow shrink = record {
+  base = base;
+  minimum = float 0;
+  maximum = maximum;
+  edges = float 0;
+  grow = grow;
+  shrink = shrink;
+  start = float 0;
+  end = float 0;
+}
 
 unfoldable pub none : Float
 none = inf false
@@ -73,10 +82,13 @@ table =
     ∷ balanced [] (limit 100) 0 1 []
     ∷ balanced (5 ∷ 6 ∷ []) max-content 0 0 (2 ∷ [])
     -- P10 to P13, with their free space and the rounds of all, of which document 01 gives those of P10 and P11
-    ∷ flexed 300 (flexible (float 100) none (float 1) (float 1) ∷ flexible (float 100) none (float 3) (float 1) ∷ []) (px 100) (125 ∷ 175 ∷ []) 1
-    ∷ flexed 300 (flexible (float 100) none (float 1) (float 1) ∷ flexible (float 100) (float 120) (float 3) (float 1) ∷ []) (px 100) (180 ∷ 120 ∷ []) 2
+    ∷ flexed 300 (flexible (float 100) none (float 1) (float 1) ∷ flexible (float 100) none (float 3) (float 1) ∷ [])
+    (px 100) (125 ∷ 175 ∷ []) 1
+    ∷ flexed 300 (flexible (float 100) none (float 1) (float 1) ∷ flexible (float 100) (float 120) (float 3) (float 1) ∷
+    []) (px 100) (180 ∷ 120 ∷ []) 2
     ∷ flexed 300 (flexible (float 100) none half (float 1) ∷ []) (px 200) (200 ∷ []) 1
-    ∷ flexed 150 (flexible (float 100) none (float 0) (float 1) ∷ flexible (float 100) none (float 0) (float 1) ∷ []) (negℤ (px 50)) (75 ∷ 75 ∷ []) 1
+    ∷ flexed 150 (flexible (float 100) none (float 0) (float 1) ∷ flexible (float 100) none (float 0) (float 1) ∷ [])
+    (negℤ (px 50)) (75 ∷ 75 ∷ []) 1
     -- P14
     ∷ spaced 3 60 5 SpaceBetween (0 ∷ 35 ∷ 35 ∷ [])
     -- P15
@@ -93,7 +105,13 @@ onto answers cells = map float answers ++ drop (length answers) cells
 
 -- a container that wraps, of a given inner cross size and with no bounds
 unfoldable pub container : ℕ → ℕ → Cross
-container gap size = record { inner = Given (float size); minimum = Absent; maximum = Absent; gap = float gap; wrap = wrap.Wrap }
+container gap size = record {
+  inner = Given (float size);
+  minimum = Absent;
+  maximum = Absent;
+  gap = float gap;
+  wrap = wrap.Wrap;
+}
 
 -- a line of n items with this free space and no auto margins
 pub record Plain (inner : Float) (l : LineLists) (n free gap : ℕ) : Type 0 where
@@ -104,22 +122,28 @@ pub record Plain (inner : Float) (l : LineLists) (n free gap : ℕ) : Type 0 whe
 abbrev pub RowHolds : Row → Type 0
 -- the plain rule of balanced breaking
 RowHolds (balanced sizes limit gap minimum counts) =
-    Balanced limit (px gap) (map px sizes) minimum counts × ((d : List ℕ) → Balanced limit (px gap) (map px sizes) minimum d → d ≡ counts)
+    Balanced limit (px gap) (map px sizes) minimum counts × ((d : List ℕ)
+    → Balanced limit (px gap) (map px sizes) minimum d → d ≡ counts)
 RowHolds (greedily sizes limit gap counts) = greedy limit (px gap) (map px sizes) ≡ counts
 -- 9.7 of a line with no gap
 RowHolds (flexed inner items free sizes rounds) =
     ((old : List Float) → Flexed (float inner) (float 0) items free rounds old (onto sizes old))
-    × ((f : ℤ) (r : ℕ) (old new : List Float) → Flexed (float inner) (float 0) items f r old new → (f ≡ free) × (r ≡ rounds) × (new ≡ onto sizes old))
+    × ((f : ℤ) (r : ℕ) (old new : List Float) → Flexed (float inner) (float 0) items f r old new → (f ≡ free)
+    × (r ≡ rounds) × (new ≡ onto sizes old))
 -- the main axis of every such line, and there is one
 RowHolds (spaced n free gap keyword offsets) =
     ((inner : Float) × (l : LineLists) × Plain inner l n free gap)
     × ((inner : Float) (l : LineLists) → Plain inner l n free gap → (o s e : List Float)
-    → ((s₁ : List Float) × (e₁ : List Float) × Spaced inner (float gap) (Spread keyword) false l o s e (onto offsets o) s₁ e₁)
-    × ((o₁ s₁ e₁ : List Float) → Spaced inner (float gap) (Spread keyword) false l o s e o₁ s₁ e₁ → o₁ ≡ onto offsets o))
+    → ((s₁ : List Float) × (e₁ : List Float) × Spaced inner (float gap) (Spread keyword) false l o s e (onto offsets o)
+    s₁ e₁)
+    × ((o₁ s₁ e₁ : List Float) → Spaced inner (float gap) (Spread keyword) false l o s e o₁ s₁ e₁
+    → o₁ ≡ onto offsets o))
 -- the cross axis under stretch
 RowHolds (stretched lines gap size sizes) =
-    (s o : List Float) → ((inner : Float) × (o₁ : List Float) × Aligned (container gap size) (Spread Stretch) (map float lines) s o inner (onto sizes s) o₁)
-    × ((inner : Float) (s₁ o₁ : List Float) → Aligned (container gap size) (Spread Stretch) (map float lines) s o inner s₁ o₁ → s₁ ≡ onto sizes s)
+    (s o : List Float) → ((inner : Float) × (o₁ : List Float)
+    × Aligned (container gap size) (Spread Stretch) (map float lines) s o inner (onto sizes s) o₁)
+    × ((inner : Float) (s₁ o₁ : List Float) → Aligned (container gap size) (Spread Stretch) (map float lines) s o inner
+    s₁ o₁ → s₁ ≡ onto sizes s)
 
 -- THE STATEMENT: every row of the table holds
 abbrev pub AllHold : List Row → Type 0

@@ -17,7 +17,13 @@ whereIndex (at-item i) = i
 
 -- an answer's number, place, lines and rounds
 abbrev pub crossed : Paper → CAnswer
-crossed p = record { number = p .number; at = whereCode (p .place); place = whereIndex (p .place); lines = p .lines; rounds = p .rounds }
+crossed p = record {
+  number = p .number;
+  at = whereCode (p .place);
+  place = whereIndex (p .place);
+  lines = p .lines;
+  rounds = p .rounds;
+}
 
 abbrev pub cAnswer : Answer → CAnswer
 cAnswer a = crossed (paper a)

@@ -1,4 +1,5 @@
-// An answer as it crosses to C, where no enum does: number, place, lines and rounds, each a number (document 01, "Domain and refusal numbers").
+// An answer as it crosses to C, where no enum does: number, place, lines and rounds, each a number (document 01,
+// "Domain and refusal numbers").
 ghost use mathlib.Core.Path.{_≡_};
 ghost use Rattle.checks.specs.Domain.{refusedAs, whereOf, refusalOf};
 ghost use Rattle.export_answer.specs.Crossing.{crossed, cAnswer};
@@ -6,7 +7,8 @@ use checks::Answer;
 use checks::Place;
 use checks::Refusal;
 
-// An answer's number, its place, its lines and its rounds. `at` says where: 0 nowhere, 1 the container, 2 the item or line `place`.
+// An answer's number, its place, its lines and its rounds. `at` says where: 0 nowhere, 1 the container, 2 the item or
+// line `place`.
 #[repr(C)]
 pub struct CAnswer {
     pub number: u32,

@@ -1,5 +1,5 @@
--- Greedy and balanced breaking as they cross to C: numbers and slices, a code for the kind of the limit, and each exported call as the call inside it.
--- Assumes nothing.
+-- Greedy and balanced breaking as they cross to C: numbers and slices, a code for the kind of the limit, and each
+-- exported call as the call inside it. Assumes nothing.
 use mathlib.Core.Path.{_≡_}
 use mathlib.Core.List.{List, [], _∷_}
 use Prim.Native.Nat.{ℕ}
@@ -26,7 +26,8 @@ pub record Crossed (r : CAnswer) (counts : List ℕ) (b : GreedyResult) : Type 0
   pub cells : counts ≡ b .counts
 
 -- balanced breaking from C
-pub record BalancedFromC (kind : ℕ) (limit gap : Float) (minimum : ℕ) (sizes : List Float) (before : BreakLent) (r : CAnswer) (after : BreakLent) : Type 0 where
+pub record BalancedFromC (kind : ℕ) (limit gap : Float) (minimum : ℕ) (sizes : List Float) (before : BreakLent)
+    (r : CAnswer) (after : BreakLent) : Type 0 where
   pub inside : Answer
   pub told : r ≡ cAnswer inside
   pub called : BalancedCall (kindNumber kind) (spaceOf kind limit) gap minimum sizes before inside after

@@ -1,5 +1,5 @@
-// Greedy and balanced breaking, for a host in C or C++ (include/fratolivem.h). Enums do not cross, so kinds are codes here, and a code that names
-// nothing is refusal 5. Every call takes any bits; all else is inside.
+// Greedy and balanced breaking, for a host in C or C++ (include/fratolivem.h). Enums do not cross, so kinds are codes
+// here, and a code that names nothing is refusal 5. Every call takes any bits; all else is inside.
 ghost use Rattle.export_break.specs.Breaks.{Crossed, greedyFromC, BalancedFromC};
 ghost use Rattle.balance.specs.Calls.{breakLent};
 use export_answer::CAnswer;
@@ -14,7 +14,8 @@ pub extern "C" fn fratolivem_greedy(
     sizes: &[f32],
     counts: &mut [u32],
 ) -> CAnswer
-    ensures { λ r. ⌜ Crossed r (now (counts .exit)) (greedyFromC «limit_kind» limit gap (now (sizes .entry)) (now (counts .entry))) ⌝ }
+    ensures { λ r. ⌜ Crossed r (now (counts .exit)) (greedyFromC «limit_kind» limit gap (now (sizes .entry))
+        (now (counts .entry))) ⌝ }
 {
     let space = space_of(limit_kind, limit);
     if 2 < limit_kind {
@@ -37,7 +38,9 @@ pub extern "C" fn fratolivem_balanced(
     work: &mut [u32],
     sums: &mut [f64],
 ) -> CAnswer
-    ensures { λ r. ⌜ BalancedFromC «limit_kind» limit gap minimum (now (sizes .entry)) (breakLent (now (counts .entry)) (now (work .entry)) (now (sums .entry))) r (breakLent (now (counts .exit)) (now (work .exit)) (now (sums .exit))) ⌝ }
+    ensures { λ r. ⌜ BalancedFromC «limit_kind» limit gap minimum (now (sizes .entry))
+        (breakLent (now (counts .entry)) (now (work .entry)) (now (sums .entry))) r
+        (breakLent (now (counts .exit)) (now (work .exit)) (now (sums .exit))) ⌝ }
 {
     let space = space_of(limit_kind, limit);
     if 2 < limit_kind {

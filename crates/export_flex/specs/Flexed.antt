@@ -1,4 +1,5 @@
--- The calls that flex, as they cross to C: each exported call is the call inside it, and its answer the paper's values. Assumes nothing.
+-- The calls that flex, as they cross to C: each exported call is the call inside it, and its answer the paper's values.
+-- Assumes nothing.
 use mathlib.Core.Path.{_≡_}
 use mathlib.Core.List.{List}
 use Prim.Native.Nat.{ℕ}
@@ -15,7 +16,13 @@ use Rattle.export_flex.specs.declared.CFlexed.{CFlexed}
 
 -- an answer's number and place, the free space and the rounds
 abbrev pub cFlexed : Values → CFlexed
-cFlexed v = record { number = v .number; at = whereCode (v .place); place = whereIndex (v .place); free = v .free; rounds = v .rounds }
+cFlexed v = record {
+  number = v .number;
+  at = whereCode (v .place);
+  place = whereIndex (v .place);
+  free = v .free;
+  rounds = v .rounds;
+}
 
 -- one line
 pub record FlexedFromC (inner gap : Float) (ls : Lists) (r : CFlexed) (old new : List Float) : Type 0 where
@@ -24,7 +31,8 @@ pub record FlexedFromC (inner gap : Float) (ls : Lists) (r : CFlexed) (old new :
   pub flexed : FlexedLine inner gap ls inside old new
 
 -- many lines
-pub record FlexedLinesFromC (inner gap : Float) (counts : List ℕ) (ls : Lists) (r : CAnswer) (targets₀ : List Float) (free₀ : List ℤ) (rounds₀ : List ℕ) (targets : List Float) (free : List ℤ) (rounds : List ℕ) : Type 0 where
+pub record FlexedLinesFromC (inner gap : Float) (counts : List ℕ) (ls : Lists) (r : CAnswer) (targets₀ : List Float)
+    (free₀ : List ℤ) (rounds₀ : List ℕ) (targets : List Float) (free : List ℤ) (rounds : List ℕ) : Type 0 where
   pub inside : Answer
   pub told : r ≡ cAnswer inside
   pub flexed : FlexedByLine inner gap counts ls inside targets₀ free₀ rounds₀ targets free rounds

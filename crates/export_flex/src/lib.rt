@@ -7,7 +7,8 @@ ghost use Rattle.export_flex.specs.Parts.{cNothing};
 use export_answer::CAnswer;
 use flex_line_call::FlexAnswer;
 
-// Number and place as in CAnswer; then the line's free space before flexing, in sixty-fourths, and its rounds. Both are 0 on refusal.
+// Number and place as in CAnswer; then the line's free space before flexing, in sixty-fourths, and its rounds. Both are
+// 0 on refusal.
 #[repr(C)]
 pub struct CFlexed {
     pub number: u32,
@@ -61,7 +62,10 @@ pub extern "C" fn fratolivem_flex_line<'a>(
     auto_end: &'a [u32],
     targets: &mut [f32],
 ) -> CFlexed
-    ensures { λ r. ⌜ FlexedFromC inner gap (lists (now (base .entry)) (now (minimum .entry)) (now (maximum .entry)) (now («has_maximum» .entry)) (now (edges .entry)) (now (grow .entry)) (now (shrink .entry)) (now (start .entry)) (now (end .entry)) (now («auto_start» .entry)) (now («auto_end» .entry))) r (now (targets .entry)) (now (targets .exit)) ⌝ }
+    ensures { λ r. ⌜ FlexedFromC inner gap (lists (now (base .entry)) (now (minimum .entry)) (now (maximum .entry))
+        (now («has_maximum» .entry)) (now (edges .entry)) (now (grow .entry)) (now (shrink .entry)) (now (start .entry))
+        (now (end .entry)) (now («auto_start» .entry)) (now («auto_end» .entry))) r (now (targets .entry))
+        (now (targets .exit)) ⌝ }
 {
     flexed_to_c(flex_line_call::flex_line(
         inner,
@@ -101,7 +105,11 @@ pub extern "C" fn fratolivem_flex_lines<'a>(
     free: &mut [i32],
     rounds: &mut [u32],
 ) -> CAnswer
-    ensures { λ r. ⌜ FlexedLinesFromC inner gap (now (counts .entry)) (lists (now (base .entry)) (now (minimum .entry)) (now (maximum .entry)) (now («has_maximum» .entry)) (now (edges .entry)) (now (grow .entry)) (now (shrink .entry)) (now (start .entry)) (now (end .entry)) (now («auto_start» .entry)) (now («auto_end» .entry))) r (now (targets .entry)) (now (free .entry)) (now (rounds .entry)) (now (targets .exit)) (now (free .exit)) (now (rounds .exit)) ⌝ }
+    ensures { λ r. ⌜ FlexedLinesFromC inner gap (now (counts .entry))
+        (lists (now (base .entry)) (now (minimum .entry)) (now (maximum .entry)) (now («has_maximum» .entry))
+        (now (edges .entry)) (now (grow .entry)) (now (shrink .entry)) (now (start .entry)) (now (end .entry))
+        (now («auto_start» .entry)) (now («auto_end» .entry))) r (now (targets .entry)) (now (free .entry))
+        (now (rounds .entry)) (now (targets .exit)) (now (free .exit)) (now (rounds .exit)) ⌝ }
 {
     export_answer::to_c(flex_lines_call::flex_lines(
         inner,

@@ -1,4 +1,5 @@
--- The break limit as it crosses to C: codes for what is an enum inside, and the exported call as the call inside it. Assumes nothing.
+-- The break limit as it crosses to C: codes for what is an enum inside, and the exported call as the call inside it.
+-- Assumes nothing.
 use mathlib.Core.Bool.{Bool}
 use mathlib.Core.List.{List, [], _∷_}
 use Prim.Native.Nat.{ℕ}
@@ -34,7 +35,8 @@ pub record Asked : Type 0 where
   pub maximum : Float
 
 abbrev pub askedCodes : Asked → List Number
-askedCodes a = code 1 (a .known) ∷ (code 1 (a .main) ∷ (code 1 (a .row) ∷ (code 2 (a .kind) ∷ (code 1 (a .«has_minimum») ∷ (code 1 (a .«has_maximum») ∷ [])))))
+askedCodes a = code 1 (a .known) ∷ (code 1 (a .main) ∷ (code 1 (a .row) ∷
+    (code 2 (a .kind) ∷ (code 1 (a .«has_minimum») ∷ (code 1 (a .«has_maximum») ∷ [])))))
 
 abbrev pub queryOf : Asked → Query
 queryOf a = record {

@@ -1,5 +1,5 @@
-// The break limit, for a host in C or C++ (include/fratolivem.h). Enums do not cross, so kinds are codes here, and a code that names nothing is
-// refusal 5. The call takes any bits; all else is inside.
+// The break limit, for a host in C or C++ (include/fratolivem.h). Enums do not cross, so kinds are codes here, and a
+// code that names nothing is refusal 5. The call takes any bits; all else is inside.
 ghost use mathlib.Core.Path.{_≡_};
 ghost use lib.Ieee.{Float};
 ghost use Rattle.break_limit.specs.Limit.{limitFrom};
@@ -14,7 +14,8 @@ use keywords::AvailableSpace;
 use keywords::bound_of;
 use keywords::space_of;
 
-// A break limit: number and place as in every answer, then its kind (0 definite, 1 min-content, 2 max-content, 3 none: refused), and the limit where it is definite.
+// A break limit: number and place as in every answer, then its kind (0 definite, 1 min-content, 2 max-content, 3 none:
+// refused), and the limit where it is definite.
 #[repr(C)]
 pub struct CLimit {
     pub number: u32,
@@ -74,7 +75,17 @@ fn mark_codes(
     has_minimum: u32,
     has_maximum: u32,
 ) -> Mark
-    ensures { λ r. ⌜ ((x y z : Float) → r .0 ≡ leastOf (askedCodes (record { known = known; main = main; row = row; kind = kind; available = x; «has_minimum» = «has_minimum»; minimum = y; «has_maximum» = «has_maximum»; maximum = z })) 0) ⌝ }
+    ensures { λ r. ⌜ ((x y z : Float) → r .0 ≡ leastOf (askedCodes (record {
+      known = known;
+      main = main;
+      row = row;
+      kind = kind;
+      available = x;
+      «has_minimum» = «has_minimum»;
+      minimum = y;
+      «has_maximum» = «has_maximum»;
+      maximum = z;
+    })) 0) ⌝ }
 {
     let flags = checks::least(
         checks_number::mark_code(1, known, 0),
@@ -114,7 +125,17 @@ pub extern "C" fn fratolivem_break_limit(
     has_maximum: u32,
     maximum: f32,
 ) -> CLimit
-    ensures { λ r. ⌜ r ≡ limitFromC (record { known = known; main = main; row = row; kind = kind; available = available; «has_minimum» = «has_minimum»; minimum = minimum; «has_maximum» = «has_maximum»; maximum = maximum }) ⌝ }
+    ensures { λ r. ⌜ r ≡ limitFromC (record {
+      known = known;
+      main = main;
+      row = row;
+      kind = kind;
+      available = available;
+      «has_minimum» = «has_minimum»;
+      minimum = minimum;
+      «has_maximum» = «has_maximum»;
+      maximum = maximum;
+    }) ⌝ }
 {
     let codes = mark_codes(known, main, row, kind, has_minimum, has_maximum);
     let space = space_of(kind, available);

@@ -1,4 +1,5 @@
--- The calls that size a line and place lines, as they cross to C: each is the call inside it, with its answer by the paper's table. Assumes nothing.
+-- The calls that size a line and place lines, as they cross to C: each is the call inside it, with its answer by the
+-- paper's table. Assumes nothing.
 use mathlib.Core.List.{List}
 use lib.Ieee.{Float, binary32, ofBits}
 use Rattle.checks.specs.Domain.{refusalOf}

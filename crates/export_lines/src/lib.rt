@@ -1,5 +1,5 @@
-// The calls that size a line and place lines along the cross axis, for a host in C or C++ (include/fratolivem.h). Each is the call inside it, and takes
-// any bits.
+// The calls that size a line and place lines along the cross axis, for a host in C or C++ (include/fratolivem.h). Each
+// is the call inside it, and takes any bits.
 ghost use mathlib.Core.Path.{_≡_};
 ghost use Rattle.place_size.specs.CrossSize.{items};
 ghost use Rattle.place_size_call.specs.SizeCall.{sizeCall};
@@ -73,7 +73,9 @@ pub extern "C" fn fratolivem_line_size<'a>(
     auto_start: &'a [u32],
     auto_end: &'a [u32],
 ) -> CSized
-    ensures { λ r. ⌜ r ≡ cLine (sizeCall c (items (now (measured .entry)) (now (minimum .entry)) (now (maximum .entry)) (now («has_maximum» .entry)) (now (edges .entry)) (now (start .entry)) (now (end .entry)) (now («auto_start» .entry)) (now («auto_end» .entry)))) ⌝ }
+    ensures { λ r. ⌜ r ≡ cLine (sizeCall c (items (now (measured .entry)) (now (minimum .entry)) (now (maximum .entry))
+        (now («has_maximum» .entry)) (now (edges .entry)) (now (start .entry)) (now (end .entry))
+        (now («auto_start» .entry)) (now («auto_end» .entry)))) ⌝ }
 {
     line_to_c(place_size_call::size_line(
         c,
@@ -89,7 +91,8 @@ pub extern "C" fn fratolivem_line_size<'a>(
     ))
 }
 
-// The lines of a container: their sizes stretched, their offsets, and the container's inner cross size. An item of its list is a line.
+// The lines of a container: their sizes stretched, their offsets, and the container's inner cross size. An item of its
+// list is a line.
 #[no_mangle]
 pub extern "C" fn fratolivem_place_lines(
     c: CrossNumbers,
@@ -98,7 +101,8 @@ pub extern "C" fn fratolivem_place_lines(
     sizes: &mut [f32],
     offsets: &mut [f32],
 ) -> CSized
-    ensures { λ r. ⌜ cAligned r (now (sizes .exit)) (now (offsets .exit)) ≡ linesFromC (linesCall c «align_content» (now (lines .entry)) (now (sizes .entry)) (now (offsets .entry))) ⌝ }
+    ensures { λ r. ⌜ cAligned r (now (sizes .exit)) (now (offsets .exit))
+        ≡ linesFromC (linesCall c «align_content» (now (lines .entry)) (now (sizes .entry)) (now (offsets .entry))) ⌝ }
 {
     lines_to_c(place_lines_call::place_lines(c, align_content, lines, sizes, offsets))
 }

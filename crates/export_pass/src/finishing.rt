@@ -57,8 +57,11 @@ pub fn finish<'a>(
     sums: &mut [f64],
 ) -> CPassed
     requires { ⌜ (14 * m ≤ length (now nums)) × (8 * m ≤ length (now codes)) ⌝ }
-    ensures { λ r. ⌜ PassedFromC c m (take (14 * m) (now (nums .entry))) (take (8 * m) (now (codes .entry))) (passLent (now (placed .entry)) (now (lines .entry)) (now (counts .entry)) (now (rounds .entry)) (now (free .entry)) (now (work .entry)) (now (sums .entry)))
-        r (passLent (now (placed .exit)) (now (lines .exit)) (now (counts .exit)) (now (rounds .exit)) (now (free .exit)) (now (work .exit)) (now (sums .exit))) ⌝ }
+    ensures { λ r. ⌜ PassedFromC c m (take (14 * m) (now (nums .entry))) (take (8 * m) (now (codes .entry)))
+        (passLent (now (placed .entry)) (now (lines .entry)) (now (counts .entry)) (now (rounds .entry))
+        (now (free .entry)) (now (work .entry)) (now (sums .entry)))
+        r (passLent (now (placed .exit)) (now (lines .exit)) (now (counts .exit)) (now (rounds .exit))
+        (now (free .exit)) (now (work .exit)) (now (sums .exit))) ⌝ }
 {
     let a = 14 * m;
     let e = 8 * m;

@@ -8,7 +8,8 @@ use pass_items::Item;
 
 pub mod finishing;
 
-// An answer's number, its place, its lines, its rounds and its inner cross size. `at` says where: 0 nowhere, 1 the container, 2 the item `place`.
+// An answer's number, its place, its lines, its rounds and its inner cross size. `at` says where: 0 nowhere, 1 the
+// container, 2 the item `place`.
 #[repr(C)]
 pub struct CPassed {
     pub number: u32,
@@ -32,8 +33,11 @@ pub extern "C" fn fratolivem_pass(
     work: &mut [u32],
     sums: &mut [f64],
 ) -> CPassed
-    ensures { λ r. ⌜ PassedFromC c (length (now (items .entry))) (numbersOf (now (items .entry))) (codesOf (now (items .entry))) (passLent (now (placed .entry)) (now (lines .entry)) (now (counts .entry)) (now (rounds .entry)) (now (free .entry)) (now (work .entry)) (now (sums .entry)))
-        r (passLent (now (placed .exit)) (now (lines .exit)) (now (counts .exit)) (now (rounds .exit)) (now (free .exit)) (now (work .exit)) (now (sums .exit))) ⌝ }
+    ensures { λ r. ⌜ PassedFromC c (length (now (items .entry))) (numbersOf (now (items .entry)))
+        (codesOf (now (items .entry))) (passLent (now (placed .entry)) (now (lines .entry)) (now (counts .entry))
+        (now (rounds .entry)) (now (free .entry)) (now (work .entry)) (now (sums .entry)))
+        r (passLent (now (placed .exit)) (now (lines .exit)) (now (counts .exit)) (now (rounds .exit))
+        (now (free .exit)) (now (work .exit)) (now (sums .exit))) ⌝ }
 {
     let m = pass_items::held(items.len());
     let mut nums = [0.0f32; 14350];

@@ -1,4 +1,5 @@
--- What flexing asks of the items and the lists that the checks accepted. Only contracts of parts cite it. Assumes nothing.
+-- What flexing asks of the items and the lists that the checks accepted. Only contracts of parts cite it. Assumes
+-- nothing.
 use mathlib.Core.Path.{_≡_}
 use mathlib.Core.Logic.{_⊎_}
 use mathlib.Core.Bool.{false}

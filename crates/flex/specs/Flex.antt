@@ -1,5 +1,6 @@
--- Document 01, "Flexible lengths, CSS-FLEX 9.7", of one line, in the standard's order of steps. Items are as they are read: no number is -0.0,
--- an auto margin is 0, and an absent maximum is infinite. "f32 throughout, each operation rounded once"; "Every sum runs from item 0 upward". Assumes nothing.
+-- Document 01, "Flexible lengths, CSS-FLEX 9.7", of one line, in the standard's order of steps. Items are as they are
+-- read: no number is -0.0, an auto margin is 0, and an absent maximum is infinite. "f32 throughout, each operation
+-- rounded once"; "Every sum runs from item 0 upward". Assumes nothing.
 use mathlib.Core.Path.{_≡_}
 use mathlib.Core.Bool.{Bool, true, cond, _&&_, _||_}
 use mathlib.Core.List.{List, [], _∷_, _++_, map}
@@ -52,7 +53,8 @@ factor growing it = cond growing (it .grow) (it .shrink)
 abbrev pub weight : Bool → Item → Float
 weight growing it = cond growing (it .grow) (innerBase it ⊗ it .shrink)
 
--- ---- "free space before flexing, signed, in whole sixty-fourths: inner main size less hypothetical outer sizes and gaps"
+-- ---- "free space before flexing, signed, in whole sixty-fourths: inner main size less hypothetical outer sizes and
+-- gaps"
 
 abbrev pub outerUnits : Item → ℤ
 outerUnits it = sixtyFourths (hypothetical it) +ℤ (sixtyFourths (it .start) +ℤ sixtyFourths (it .end))
@@ -84,9 +86,11 @@ pub record Cell : Type 0 where
 
 -- "each item with factor 0, and, growing, base above hypothetical, or, shrinking, base below it"
 unfoldable pub inflexible : Bool → Item → Bool
-inflexible growing it = eq (factor growing it) nought || cond growing (lt (hypothetical it) (it .base)) (lt (it .base) (hypothetical it))
+inflexible growing it =
+    eq (factor growing it) nought || cond growing (lt (hypothetical it) (it .base)) (lt (it .base) (hypothetical it))
 
--- such an item is frozen at its hypothetical size; the target of one that is not frozen is a placeholder, which no step reads
+-- such an item is frozen at its hypothetical size; the target of one that is not frozen is a placeholder, which no step
+-- reads
 abbrev pub startCell : Bool → Item → Cell
 startCell growing it = record { item = it; frozen = inflexible growing it; target = hypothetical it }
 
@@ -106,7 +110,12 @@ remaining inner gap cells = inner ⊖ (gaps gap (length cells) ⊕ total taken c
 
 -- what the rounds of a line go by
 abbrev pub lineOf : Float → Float → List Item → Line
-lineOf inner gap items = record { inner = inner; gap = gap; initial = remaining inner gap (begun inner gap items); growing = grows inner gap items }
+lineOf inner gap items = record {
+  inner = inner;
+  gap = gap;
+  initial = remaining inner gap (begun inner gap items);
+  growing = grows inner gap items;
+}
 
 -- ---- step 4a, the items that are not frozen, and how many
 
@@ -117,36 +126,46 @@ left (c ∷ l) = cond (c .frozen) (left l) (c ∷ left l)
 abbrev pub unfrozen : List Cell → ℕ
 unfrozen cells = length (left cells)
 
--- ---- step 4b: "if unfrozen grow or shrink factors sum below 1, initial times that sum replaces it where smaller in magnitude"
+-- ---- step 4b: "if unfrozen grow or shrink factors sum below 1, initial times that sum replaces it where smaller in
+-- magnitude"
 
 unfoldable pub limited : Float → Float → Float → Float
-limited initial factors free = cond (lt factors unity && lt (magnitude (initial ⊗ factors)) (magnitude free)) (initial ⊗ factors) free
+limited initial factors free =
+    cond (lt factors unity && lt (magnitude (initial ⊗ factors)) (magnitude free)) (initial ⊗ factors) free
 
 -- what a round shares out, and over what sum of weights
 unfoldable pub share : Line → List Cell → Share
 share ln cells = record {
   growing = ln .growing;
-  free = limited (ln .initial) (total (λ c. factor (ln .growing) (c .item)) (left cells)) (remaining (ln .inner) (ln .gap) cells);
+  free = limited (ln .initial) (total (λ c. factor (ln .growing) (c .item)) (left cells))
+      (remaining (ln .inner) (ln .gap) cells);
   weights = total (λ c. weight (ln .growing) (c .item)) (left cells);
 }
 
 -- ---- step 4c: "add to each base free × (factor ÷ sum), .. nothing if free or sum is 0"
 
 unfoldable pub flexed : Share → Item → Float
-flexed sh it = cond (eq (sh .free) nought || eq (sh .weights) nought) (it .base) (it .base ⊕ sh .free ⊗ (weight (sh .growing) it ⊘ sh .weights))
+flexed sh it = cond (eq (sh .free) nought || eq (sh .weights) nought) (it .base)
+    (it .base ⊕ sh .free ⊗ (weight (sh .growing) it ⊘ sh .weights))
 
 -- ---- step 4d: "A violation is the clamped size less the unclamped"
 
 unfoldable pub violation : Share → Item → Float
 violation sh it = clamp it (flexed sh it) ⊖ flexed sh it
 
--- ---- step 4e, by the total of the violations: "freeze all if 0, the raised items if positive, the lowered items if negative"
+-- ---- step 4e, by the total of the violations: "freeze all if 0, the raised items if positive, the lowered items if
+-- negative"
 
 unfoldable pub freezes : Float → Float → Bool
 freezes sum v = cond (lt nought sum) (lt nought v) (cond (lt sum nought) (lt v nought) true)
 
 unfoldable pub settle : Share → Float → Cell → Cell
-settle sh sum c = cond (c .frozen) c (record { item = c .item; frozen = freezes sum (violation sh (c .item)); target = clamp (c .item) (flexed sh (c .item)) })
+settle sh sum c = cond (c .frozen) c (record {
+  item = c .item;
+  frozen = freezes sum (violation sh (c .item));
+  target =
+      clamp (c .item) (flexed sh (c .item));
+})
 
 -- ---- one round, steps 4b to 4e
 
@@ -170,7 +189,8 @@ pub record Runs (ln : Line) (cells : List Cell) (n : ℕ) : Type 0 where
 abbrev pub targets : Float → Float → List Item → ℕ → List Float
 targets inner gap items n = map (λ c. cleaned (c .target)) (after (lineOf inner gap items) n (begun inner gap items))
 
--- what flexing a line gives: free space, rounds, and in the first cells the targets; the cells past those are as they were
+-- what flexing a line gives: free space, rounds, and in the first cells the targets; the cells past those are as they
+-- were
 pub record Flexed (inner gap : Float) (items : List Item) (free : ℤ) (rounds : ℕ) (old new : List Float) : Type 0 where
   pub space : free ≡ freeBefore inner gap items
   pub number : Runs (lineOf inner gap items) (begun inner gap items) rounds

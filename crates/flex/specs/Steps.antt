@@ -1,5 +1,5 @@
--- What the parts of a round work out: the sums over a line's cells, what they leave to share out, and a round in two passes. Only contracts of parts
--- cite it. Assumes nothing.
+-- What the parts of a round work out: the sums over a line's cells, what they leave to share out, and a round in two
+-- passes. Only contracts of parts cite it. Assumes nothing.
 use mathlib.Core.Path.{_≡_}
 use mathlib.Core.Bool.{Bool, cond}
 use mathlib.Core.List.{List}
@@ -34,7 +34,11 @@ abbrev pub spaceLeft : Float → Float → ℕ → Float → Float
 spaceLeft inner gap n outer = inner ⊖ (gaps gap n ⊕ outer)
 
 abbrev pub shareOf : Line → ℕ → Sums → Share
-shareOf ln n s = record { growing = ln .growing; free = limited (ln .initial) (s .factors) (spaceLeft (ln .inner) (ln .gap) n (s .outer)); weights = s .weights }
+shareOf ln n s = record {
+  growing = ln .growing;
+  free = limited (ln .initial) (s .factors) (spaceLeft (ln .inner) (ln .gap) n (s .outer));
+  weights = s .weights;
+}
 
 -- ---- a round in two passes, so that a flexed size, which takes a division, is worked out once
 
@@ -44,4 +48,9 @@ sized sh c = record { item = c .item; frozen = c .frozen; target = cond (c .froz
 
 -- steps 4d and 4e: the size that stands there is clamped, and the item frozen or not
 abbrev pub settled : Float → Cell → Cell
-settled sum c = cond (c .frozen) c (record { item = c .item; frozen = freezes sum (clamp (c .item) (c .target) ⊖ c .target); target = clamp (c .item) (c .target) })
+settled sum c = cond (c .frozen) c (record {
+  item = c .item;
+  frozen =
+      freezes sum (clamp (c .item) (c .target) ⊖ c .target);
+  target = clamp (c .item) (c .target);
+})

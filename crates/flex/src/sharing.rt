@@ -1,5 +1,5 @@
-// A line by value: the way it flexes, the sums of a round, and what they leave to share out. No entry points: they ask for at most 1,024
-// items.
+// A line by value: the way it flexes, the sums of a round, and what they leave to share out. No entry points: they ask
+// for at most 1,024 items.
 ghost use mathlib.Core.Path.{_≡_};
 ghost use Prim.Native.Nat.{_≤_};
 ghost use lib.IntN.{pos};

@@ -1,6 +1,7 @@
 // One item by value: every operation on its numbers.
 ghost use mathlib.Core.Path.{_≡_};
-ghost use Rattle.flex.specs.Flex.{clamp, hypothetical, innerBase, outer, factor, weight, inflexible, flexed, freezes};
+ghost use Rattle.flex.specs.Flex.{clamp, hypothetical, innerBase, outer, factor, weight, inflexible, flexed};
+ghost use Rattle.flex.specs.Flex.{freezes};
 use crate::Item;
 use crate::Share;
 use grid::floats::lower;

@@ -1,4 +1,5 @@
--- What a call over many lines takes beside what a call for one does: the counts, a list of the items that each line has. Assumes nothing.
+-- What a call over many lines takes beside what a call for one does: the counts, a list of the items that each line
+-- has. Assumes nothing.
 use mathlib.Core.Bool.{true, cond}
 use mathlib.Core.List.{List, [], _∷_}
 use Prim.Native.Nat.{ℕ}
@@ -15,8 +16,9 @@ use Rattle.flex_checks.specs.Input.{shapeOf, inputOf}
 abbrev pub linesShape : List ℕ → Lists → ℕ → Verdict
 linesShape counts ls room = then (shape (length counts) true) (shapeOf ls room)
 
--- Document 01's table has no row for counts that divide no n items. They are taken as one number of the container, beside its inner size and
--- gap, that is out of range: check 5, at the container, before any item's. It passes, as the code 0 of 0, where the counts divide the items.
+-- Document 01's table has no row for counts that divide no n items. They are taken as one number of the container,
+-- beside its inner size and gap, that is out of range: check 5, at the container, before any item's. It passes, as the
+-- code 0 of 0, where the counts divide the items.
 abbrev pub division : List ℕ → ℕ → Number
 division counts n = code 0 (cond (divides counts n) 0 1)
 

@@ -1,4 +1,5 @@
--- What a call that flexes takes, and so checks (document 01, "Domain and refusal numbers" and "Flexible lengths"). Assumes nothing.
+-- What a call that flexes takes, and so checks (document 01, "Domain and refusal numbers" and "Flexible lengths").
+-- Assumes nothing.
 use mathlib.Core.List.{List, [], _∷_, _++_}
 use Prim.Native.Nat.{ℕ}
 use lib.ListN.{length, getD}
@@ -14,7 +15,9 @@ use Rattle.flex.specs.Items.{Lists, count}
 
 abbrev pub lengths : Lists → List ℕ
 lengths ls =
-    length (ls .base) ∷ length (ls .minimum) ∷ length (ls .maximum) ∷ length (ls .has-maximum) ∷ length (ls .edges) ∷ length (ls .grow) ∷ length (ls .shrink) ∷ length (ls .start) ∷ length (ls .end) ∷ length (ls .auto-start) ∷ length (ls .auto-end) ∷ []
+    length (ls .base) ∷ length (ls .minimum) ∷ length (ls .maximum) ∷ length (ls .has-maximum) ∷ length (ls .edges) ∷
+    length (ls .grow) ∷ length (ls .shrink) ∷ length (ls .start) ∷ length (ls .end) ∷ length (ls .auto-start) ∷
+    length (ls .auto-end) ∷ []
 
 -- the lists are of one length, and there are as many cells for the targets
 abbrev pub shapeOf : Lists → ℕ → Verdict
@@ -24,12 +27,15 @@ shapeOf ls room = shapes.shapeOf (lengths ls) (room ∷ []) (count ls)
 
 -- of item i those that are always there: base, minimum, padding plus border, grow and shrink
 abbrev pub plainAt : List Float → List Float → List Float → List Float → List Float → ℕ → List Number
-plainAt b l e g s i = float Size (getD b i nan) ∷ float Size (getD l i nan) ∷ float Size (getD e i nan) ∷ float Factor (getD g i nan) ∷ float Factor (getD s i nan) ∷ []
+plainAt b l e g s i = float Size (getD b i nan) ∷ float Size (getD l i nan) ∷ float Size (getD e i nan) ∷ float Factor
+    (getD g i nan) ∷ float Factor (getD s i nan) ∷ []
 
 -- and the maximum and the margins, each beside its code
 abbrev pub inputOf : Float → Float → Lists → Input
 inputOf inner gap ls = record {
   container = float Size inner ∷ float Size gap ∷ [];
   count = count ls;
-  item = λ i. plainAt (ls .base) (ls .minimum) (ls .edges) (ls .grow) (ls .shrink) i ++ (besideAt Size 1 (ls .maximum) (ls .has-maximum) i ++ (besideAt Margin 0 (ls .start) (ls .auto-start) i ++ besideAt Margin 0 (ls .end) (ls .auto-end) i));
+  item = λ i. plainAt (ls .base) (ls .minimum) (ls .edges) (ls .grow) (ls .shrink) i
+      ++ (besideAt Size 1 (ls .maximum) (ls .has-maximum) i ++
+      (besideAt Margin 0 (ls .start) (ls .auto-start) i ++ besideAt Margin 0 (ls .end) (ls .auto-end) i));
 }

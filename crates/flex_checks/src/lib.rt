@@ -1,4 +1,5 @@
-// Checks 1 to 5 of a call that flexes: the lengths of its lists, and the numbers that it takes. For the calls: none is an entry point.
+// Checks 1 to 5 of a call that flexes: the lengths of its lists, and the numbers that it takes. For the calls: none is
+// an entry point.
 ghost use mathlib.Core.Path.{_≡_};
 ghost use mathlib.Core.List.{[], _∷_};
 ghost use Prim.Native.Nat.{_+_, _≤_};
@@ -38,7 +39,8 @@ fn check_lengths(
     auto_end: usize,
     room: usize,
 ) -> Verdict
-    ensures { λ r. ⌜ r ≡ shapes.shapeOf (base ∷ minimum ∷ maximum ∷ «has_maximum» ∷ edges ∷ grow ∷ shrink ∷ start ∷ end ∷ «auto_start» ∷ «auto_end» ∷ []) (room ∷ []) base ⌝ }
+    ensures { λ r. ⌜ r ≡ shapes.shapeOf (base ∷ minimum ∷ maximum ∷ «has_maximum» ∷ edges ∷ grow ∷ shrink ∷ start ∷ end
+        ∷ «auto_start» ∷ «auto_end» ∷ []) (room ∷ []) base ⌝ }
 {
     let longest = larger(end, larger(auto_start, larger(auto_end, 0)));
     let longest = larger(grow, larger(shrink, larger(start, longest)));
@@ -61,8 +63,11 @@ fn mark_plain<'a>(
     grow: &'a [f32],
     shrink: &'a [f32],
 ) -> Mark
-    requires { ⌜ (length (now base) ≤ 1024) × (length (now minimum) ≡ length (now base)) × (length (now edges) ≡ length (now base)) × (length (now grow) ≡ length (now base)) × (length (now shrink) ≡ length (now base)) ⌝ }
-    ensures { λ r. ⌜ r .0 ≡ leastUpTo (λ i. leastOf (plainAt (now (base .entry)) (now (minimum .entry)) (now (edges .entry)) (now (grow .entry)) (now (shrink .entry)) i) (i + 1)) (length (now (base .entry))) ⌝ }
+    requires { ⌜ (length (now base) ≤ 1024) × (length (now minimum) ≡ length (now base))
+        × (length (now edges) ≡ length (now base)) × (length (now grow) ≡ length (now base))
+        × (length (now shrink) ≡ length (now base)) ⌝ }
+    ensures { λ r. ⌜ r .0 ≡ leastUpTo (λ i. leastOf (plainAt (now (base .entry)) (now (minimum .entry))
+        (now (edges .entry)) (now (grow .entry)) (now (shrink .entry)) i) (i + 1)) (length (now (base .entry))) ⌝ }
 {
     let m = least(mark_floats(Kind::Factor, shrink), no_mark());
     let m = least(mark_floats(Kind::Factor, grow), m);
@@ -87,8 +92,12 @@ pub fn mark_numbers<'a>(
     auto_start: &'a [u32],
     auto_end: &'a [u32],
 ) -> Mark
-    requires { ⌜ Even (lists (now base) (now minimum) (now maximum) (now «has_maximum») (now edges) (now grow) (now shrink) (now start) (now end) (now «auto_start») (now «auto_end»)) ⌝ }
-    ensures { λ r. ⌜ r .0 ≡ leastMark (inputOf inner gap (lists (now (base .entry)) (now (minimum .entry)) (now (maximum .entry)) (now («has_maximum» .entry)) (now (edges .entry)) (now (grow .entry)) (now (shrink .entry)) (now (start .entry)) (now (end .entry)) (now («auto_start» .entry)) (now («auto_end» .entry)))) ⌝ }
+    requires { ⌜ Even (lists (now base) (now minimum) (now maximum) (now «has_maximum») (now edges) (now grow)
+        (now shrink) (now start) (now end) (now «auto_start») (now «auto_end»)) ⌝ }
+    ensures { λ r. ⌜ r .0 ≡ leastMark (inputOf inner gap (lists (now (base .entry)) (now (minimum .entry))
+        (now (maximum .entry)) (now («has_maximum» .entry)) (now (edges .entry)) (now (grow .entry))
+        (now (shrink .entry)) (now (start .entry)) (now (end .entry)) (now («auto_start» .entry))
+        (now («auto_end» .entry)))) ⌝ }
 {
     let container = least(
         mark_float(Kind::Size, inner, 0),
@@ -118,7 +127,12 @@ pub fn check_line<'a>(
     auto_end: &'a [u32],
     room: usize,
 ) -> Verdict
-    ensures { λ r. ⌜ r ≡ then (shapeOf (lists (now (base .entry)) (now (minimum .entry)) (now (maximum .entry)) (now («has_maximum» .entry)) (now (edges .entry)) (now (grow .entry)) (now (shrink .entry)) (now (start .entry)) (now (end .entry)) (now («auto_start» .entry)) (now («auto_end» .entry))) room) (judged (leastMark (inputOf inner gap (lists (now (base .entry)) (now (minimum .entry)) (now (maximum .entry)) (now («has_maximum» .entry)) (now (edges .entry)) (now (grow .entry)) (now (shrink .entry)) (now (start .entry)) (now (end .entry)) (now («auto_start» .entry)) (now («auto_end» .entry)))))) ⌝ }
+    ensures { λ r. ⌜ r ≡ then (shapeOf (lists (now (base .entry)) (now (minimum .entry)) (now (maximum .entry))
+        (now («has_maximum» .entry)) (now (edges .entry)) (now (grow .entry)) (now (shrink .entry)) (now (start .entry))
+        (now (end .entry)) (now («auto_start» .entry)) (now («auto_end» .entry))) room)
+        (judged (leastMark (inputOf inner gap (lists (now (base .entry)) (now (minimum .entry)) (now (maximum .entry))
+        (now («has_maximum» .entry)) (now (edges .entry)) (now (grow .entry)) (now (shrink .entry)) (now (start .entry))
+        (now (end .entry)) (now («auto_start» .entry)) (now («auto_end» .entry)))))) ⌝ }
 {
     let v = check_lengths(
         base.len(),

@@ -28,7 +28,8 @@ fn check_lengths_with(
     auto_end: usize,
     room: usize,
 ) -> Verdict
-    ensures { λ r. ⌜ r ≡ then (shape counts true) (shapeOf (base ∷ minimum ∷ maximum ∷ «has_maximum» ∷ edges ∷ grow ∷ shrink ∷ start ∷ end ∷ «auto_start» ∷ «auto_end» ∷ []) (room ∷ []) base) ⌝ }
+    ensures { λ r. ⌜ r ≡ then (shape counts true) (shapeOf (base ∷ minimum ∷ maximum ∷ «has_maximum» ∷ edges ∷ grow ∷
+        shrink ∷ start ∷ end ∷ «auto_start» ∷ «auto_end» ∷ []) (room ∷ []) base) ⌝ }
 {
     let v = checks::check_shape(counts, true);
     match v {
@@ -79,7 +80,14 @@ pub fn check_lines<'a>(
     auto_end: &'a [u32],
     room: usize,
 ) -> Verdict
-    ensures { λ r. ⌜ r ≡ then (linesShape (now (counts .entry)) (lists (now (base .entry)) (now (minimum .entry)) (now (maximum .entry)) (now («has_maximum» .entry)) (now (edges .entry)) (now (grow .entry)) (now (shrink .entry)) (now (start .entry)) (now (end .entry)) (now («auto_start» .entry)) (now («auto_end» .entry))) room) (judged (leastMark (linesInput inner gap (now (counts .entry)) (lists (now (base .entry)) (now (minimum .entry)) (now (maximum .entry)) (now («has_maximum» .entry)) (now (edges .entry)) (now (grow .entry)) (now (shrink .entry)) (now (start .entry)) (now (end .entry)) (now («auto_start» .entry)) (now («auto_end» .entry)))))) ⌝ }
+    ensures { λ r. ⌜ r ≡ then (linesShape (now (counts .entry))
+        (lists (now (base .entry)) (now (minimum .entry)) (now (maximum .entry)) (now («has_maximum» .entry))
+        (now (edges .entry)) (now (grow .entry)) (now (shrink .entry)) (now (start .entry)) (now (end .entry))
+        (now («auto_start» .entry)) (now («auto_end» .entry))) room)
+        (judged (leastMark (linesInput inner gap (now (counts .entry))
+        (lists (now (base .entry)) (now (minimum .entry)) (now (maximum .entry)) (now («has_maximum» .entry))
+        (now (edges .entry)) (now (grow .entry)) (now (shrink .entry)) (now (start .entry)) (now (end .entry))
+        (now («auto_start» .entry)) (now («auto_end» .entry)))))) ⌝ }
 {
     let v = check_lengths_with(
         counts.len(),

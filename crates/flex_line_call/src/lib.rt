@@ -1,4 +1,5 @@
-// The call that flexes one line, on any bits: checks 1 to 6, and then the parts of crate `flex_rounds` (document 01, "Flexible lengths").
+// The call that flexes one line, on any bits: checks 1 to 6, and then the parts of crate `flex_rounds` (document 01,
+// "Flexible lengths").
 ghost use Prim.Native.Nat.{_*_, _≤_};
 ghost use lib.ListN.{length};
 ghost use Rattle.grid.specs.Grid.{cleaned};
@@ -26,7 +27,8 @@ pub enum FlexAnswer {
 // Check 6 of items that are read, and, where it passes, their line flexed.
 fn flex_read(table: &[f32], n: usize, inner: f32, gap: f32, targets: &mut [f32]) -> FlexAnswer
     requires { ⌜ Wide (now table) n × (n ≤ length (now targets)) × Length inner × Length gap × Tabled (now table) n ⌝ }
-    ensures { λ r. ⌜ LineAnswered (summed (outerSum gap (itemsIn (now (table .entry)) 0 n))) inner gap (itemsIn (now (table .entry)) 0 n) r (now (targets .entry)) (now (targets .exit)) ⌝ }
+    ensures { λ r. ⌜ LineAnswered (summed (outerSum gap (itemsIn (now (table .entry)) 0 n))) inner gap
+        (itemsIn (now (table .entry)) 0 n) r (now (targets .entry)) (now (targets .exit)) ⌝ }
 {
     let v = checks::check_sum(outer_sum(table, n, gap));
     match v {
@@ -60,8 +62,16 @@ fn flex_in<'a>(
     table: &mut [f32],
     targets: &mut [f32],
 ) -> FlexAnswer
-    requires { ⌜ LineChecked inner gap (lists (now base) (now minimum) (now maximum) (now «has_maximum») (now edges) (now grow) (now shrink) (now start) (now end) (now «auto_start») (now «auto_end»)) (now targets) × (8 * length (now base) ≤ length (now table)) ⌝ }
-    ensures { λ r. ⌜ LineAnswered (summed (outerSum (cleaned gap) (itemsOf (lists (now (base .entry)) (now (minimum .entry)) (now (maximum .entry)) (now («has_maximum» .entry)) (now (edges .entry)) (now (grow .entry)) (now (shrink .entry)) (now (start .entry)) (now (end .entry)) (now («auto_start» .entry)) (now («auto_end» .entry)))))) (cleaned inner) (cleaned gap) (itemsOf (lists (now (base .entry)) (now (minimum .entry)) (now (maximum .entry)) (now («has_maximum» .entry)) (now (edges .entry)) (now (grow .entry)) (now (shrink .entry)) (now (start .entry)) (now (end .entry)) (now («auto_start» .entry)) (now («auto_end» .entry)))) r (now (targets .entry)) (now (targets .exit)) ⌝ }
+    requires { ⌜ LineChecked inner gap (lists (now base) (now minimum) (now maximum) (now «has_maximum») (now edges)
+        (now grow) (now shrink) (now start) (now end) (now «auto_start») (now «auto_end»)) (now targets)
+        × (8 * length (now base) ≤ length (now table)) ⌝ }
+    ensures { λ r. ⌜ LineAnswered (summed (outerSum (cleaned gap)
+        (itemsOf (lists (now (base .entry)) (now (minimum .entry)) (now (maximum .entry)) (now («has_maximum» .entry))
+        (now (edges .entry)) (now (grow .entry)) (now (shrink .entry)) (now (start .entry)) (now (end .entry))
+        (now («auto_start» .entry)) (now («auto_end» .entry)))))) (cleaned inner) (cleaned gap)
+        (itemsOf (lists (now (base .entry)) (now (minimum .entry)) (now (maximum .entry)) (now («has_maximum» .entry))
+        (now (edges .entry)) (now (grow .entry)) (now (shrink .entry)) (now (start .entry)) (now (end .entry))
+        (now («auto_start» .entry)) (now («auto_end» .entry)))) r (now (targets .entry)) (now (targets .exit)) ⌝ }
 {
     read_items(
         base,
@@ -103,8 +113,16 @@ fn flex_few<'a>(
     auto_end: &'a [u32],
     targets: &mut [f32],
 ) -> FlexAnswer
-    requires { ⌜ LineChecked inner gap (lists (now base) (now minimum) (now maximum) (now «has_maximum») (now edges) (now grow) (now shrink) (now start) (now end) (now «auto_start») (now «auto_end»)) (now targets) × (length (now base) ≤ 16) ⌝ }
-    ensures { λ r. ⌜ LineAnswered (summed (outerSum (cleaned gap) (itemsOf (lists (now (base .entry)) (now (minimum .entry)) (now (maximum .entry)) (now («has_maximum» .entry)) (now (edges .entry)) (now (grow .entry)) (now (shrink .entry)) (now (start .entry)) (now (end .entry)) (now («auto_start» .entry)) (now («auto_end» .entry)))))) (cleaned inner) (cleaned gap) (itemsOf (lists (now (base .entry)) (now (minimum .entry)) (now (maximum .entry)) (now («has_maximum» .entry)) (now (edges .entry)) (now (grow .entry)) (now (shrink .entry)) (now (start .entry)) (now (end .entry)) (now («auto_start» .entry)) (now («auto_end» .entry)))) r (now (targets .entry)) (now (targets .exit)) ⌝ }
+    requires { ⌜ LineChecked inner gap (lists (now base) (now minimum) (now maximum) (now «has_maximum») (now edges)
+        (now grow) (now shrink) (now start) (now end) (now «auto_start») (now «auto_end»)) (now targets)
+        × (length (now base) ≤ 16) ⌝ }
+    ensures { λ r. ⌜ LineAnswered (summed (outerSum (cleaned gap)
+        (itemsOf (lists (now (base .entry)) (now (minimum .entry)) (now (maximum .entry)) (now («has_maximum» .entry))
+        (now (edges .entry)) (now (grow .entry)) (now (shrink .entry)) (now (start .entry)) (now (end .entry))
+        (now («auto_start» .entry)) (now («auto_end» .entry)))))) (cleaned inner) (cleaned gap)
+        (itemsOf (lists (now (base .entry)) (now (minimum .entry)) (now (maximum .entry)) (now («has_maximum» .entry))
+        (now (edges .entry)) (now (grow .entry)) (now (shrink .entry)) (now (start .entry)) (now (end .entry))
+        (now («auto_start» .entry)) (now («auto_end» .entry)))) r (now (targets .entry)) (now (targets .exit)) ⌝ }
 {
     let mut table = [0.0; 128];
     flex_in(
@@ -142,8 +160,16 @@ fn flex_some<'a>(
     auto_end: &'a [u32],
     targets: &mut [f32],
 ) -> FlexAnswer
-    requires { ⌜ LineChecked inner gap (lists (now base) (now minimum) (now maximum) (now «has_maximum») (now edges) (now grow) (now shrink) (now start) (now end) (now «auto_start») (now «auto_end»)) (now targets) × (length (now base) ≤ 128) ⌝ }
-    ensures { λ r. ⌜ LineAnswered (summed (outerSum (cleaned gap) (itemsOf (lists (now (base .entry)) (now (minimum .entry)) (now (maximum .entry)) (now («has_maximum» .entry)) (now (edges .entry)) (now (grow .entry)) (now (shrink .entry)) (now (start .entry)) (now (end .entry)) (now («auto_start» .entry)) (now («auto_end» .entry)))))) (cleaned inner) (cleaned gap) (itemsOf (lists (now (base .entry)) (now (minimum .entry)) (now (maximum .entry)) (now («has_maximum» .entry)) (now (edges .entry)) (now (grow .entry)) (now (shrink .entry)) (now (start .entry)) (now (end .entry)) (now («auto_start» .entry)) (now («auto_end» .entry)))) r (now (targets .entry)) (now (targets .exit)) ⌝ }
+    requires { ⌜ LineChecked inner gap (lists (now base) (now minimum) (now maximum) (now «has_maximum») (now edges)
+        (now grow) (now shrink) (now start) (now end) (now «auto_start») (now «auto_end»)) (now targets)
+        × (length (now base) ≤ 128) ⌝ }
+    ensures { λ r. ⌜ LineAnswered (summed (outerSum (cleaned gap)
+        (itemsOf (lists (now (base .entry)) (now (minimum .entry)) (now (maximum .entry)) (now («has_maximum» .entry))
+        (now (edges .entry)) (now (grow .entry)) (now (shrink .entry)) (now (start .entry)) (now (end .entry))
+        (now («auto_start» .entry)) (now («auto_end» .entry)))))) (cleaned inner) (cleaned gap)
+        (itemsOf (lists (now (base .entry)) (now (minimum .entry)) (now (maximum .entry)) (now («has_maximum» .entry))
+        (now (edges .entry)) (now (grow .entry)) (now (shrink .entry)) (now (start .entry)) (now (end .entry))
+        (now («auto_start» .entry)) (now («auto_end» .entry)))) r (now (targets .entry)) (now (targets .exit)) ⌝ }
 {
     let mut table = [0.0; 1024];
     flex_in(
@@ -181,8 +207,15 @@ fn flex_many<'a>(
     auto_end: &'a [u32],
     targets: &mut [f32],
 ) -> FlexAnswer
-    requires { ⌜ LineChecked inner gap (lists (now base) (now minimum) (now maximum) (now «has_maximum») (now edges) (now grow) (now shrink) (now start) (now end) (now «auto_start») (now «auto_end»)) (now targets) ⌝ }
-    ensures { λ r. ⌜ LineAnswered (summed (outerSum (cleaned gap) (itemsOf (lists (now (base .entry)) (now (minimum .entry)) (now (maximum .entry)) (now («has_maximum» .entry)) (now (edges .entry)) (now (grow .entry)) (now (shrink .entry)) (now (start .entry)) (now (end .entry)) (now («auto_start» .entry)) (now («auto_end» .entry)))))) (cleaned inner) (cleaned gap) (itemsOf (lists (now (base .entry)) (now (minimum .entry)) (now (maximum .entry)) (now («has_maximum» .entry)) (now (edges .entry)) (now (grow .entry)) (now (shrink .entry)) (now (start .entry)) (now (end .entry)) (now («auto_start» .entry)) (now («auto_end» .entry)))) r (now (targets .entry)) (now (targets .exit)) ⌝ }
+    requires { ⌜ LineChecked inner gap (lists (now base) (now minimum) (now maximum) (now «has_maximum») (now edges)
+        (now grow) (now shrink) (now start) (now end) (now «auto_start») (now «auto_end»)) (now targets) ⌝ }
+    ensures { λ r. ⌜ LineAnswered (summed (outerSum (cleaned gap)
+        (itemsOf (lists (now (base .entry)) (now (minimum .entry)) (now (maximum .entry)) (now («has_maximum» .entry))
+        (now (edges .entry)) (now (grow .entry)) (now (shrink .entry)) (now (start .entry)) (now (end .entry))
+        (now («auto_start» .entry)) (now («auto_end» .entry)))))) (cleaned inner) (cleaned gap)
+        (itemsOf (lists (now (base .entry)) (now (minimum .entry)) (now (maximum .entry)) (now («has_maximum» .entry))
+        (now (edges .entry)) (now (grow .entry)) (now (shrink .entry)) (now (start .entry)) (now (end .entry))
+        (now («auto_start» .entry)) (now («auto_end» .entry)))) r (now (targets .entry)) (now (targets .exit)) ⌝ }
 {
     let mut table = [0.0; 8192];
     flex_in(
@@ -221,8 +254,15 @@ fn flex_more<'a>(
     auto_end: &'a [u32],
     targets: &mut [f32],
 ) -> FlexAnswer
-    requires { ⌜ LineChecked inner gap (lists (now base) (now minimum) (now maximum) (now «has_maximum») (now edges) (now grow) (now shrink) (now start) (now end) (now «auto_start») (now «auto_end»)) (now targets) ⌝ }
-    ensures { λ r. ⌜ LineAnswered (summed (outerSum (cleaned gap) (itemsOf (lists (now (base .entry)) (now (minimum .entry)) (now (maximum .entry)) (now («has_maximum» .entry)) (now (edges .entry)) (now (grow .entry)) (now (shrink .entry)) (now (start .entry)) (now (end .entry)) (now («auto_start» .entry)) (now («auto_end» .entry)))))) (cleaned inner) (cleaned gap) (itemsOf (lists (now (base .entry)) (now (minimum .entry)) (now (maximum .entry)) (now («has_maximum» .entry)) (now (edges .entry)) (now (grow .entry)) (now (shrink .entry)) (now (start .entry)) (now (end .entry)) (now («auto_start» .entry)) (now («auto_end» .entry)))) r (now (targets .entry)) (now (targets .exit)) ⌝ }
+    requires { ⌜ LineChecked inner gap (lists (now base) (now minimum) (now maximum) (now «has_maximum») (now edges)
+        (now grow) (now shrink) (now start) (now end) (now «auto_start») (now «auto_end»)) (now targets) ⌝ }
+    ensures { λ r. ⌜ LineAnswered (summed (outerSum (cleaned gap)
+        (itemsOf (lists (now (base .entry)) (now (minimum .entry)) (now (maximum .entry)) (now («has_maximum» .entry))
+        (now (edges .entry)) (now (grow .entry)) (now (shrink .entry)) (now (start .entry)) (now (end .entry))
+        (now («auto_start» .entry)) (now («auto_end» .entry)))))) (cleaned inner) (cleaned gap)
+        (itemsOf (lists (now (base .entry)) (now (minimum .entry)) (now (maximum .entry)) (now («has_maximum» .entry))
+        (now (edges .entry)) (now (grow .entry)) (now (shrink .entry)) (now (start .entry)) (now (end .entry))
+        (now («auto_start» .entry)) (now («auto_end» .entry)))) r (now (targets .entry)) (now (targets .exit)) ⌝ }
 {
     if base.len() <= 128 {
         return flex_some(
@@ -276,8 +316,15 @@ fn flex_checked<'a>(
     auto_end: &'a [u32],
     targets: &mut [f32],
 ) -> FlexAnswer
-    requires { ⌜ LineChecked inner gap (lists (now base) (now minimum) (now maximum) (now «has_maximum») (now edges) (now grow) (now shrink) (now start) (now end) (now «auto_start») (now «auto_end»)) (now targets) ⌝ }
-    ensures { λ r. ⌜ LineAnswered (summed (outerSum (cleaned gap) (itemsOf (lists (now (base .entry)) (now (minimum .entry)) (now (maximum .entry)) (now («has_maximum» .entry)) (now (edges .entry)) (now (grow .entry)) (now (shrink .entry)) (now (start .entry)) (now (end .entry)) (now («auto_start» .entry)) (now («auto_end» .entry)))))) (cleaned inner) (cleaned gap) (itemsOf (lists (now (base .entry)) (now (minimum .entry)) (now (maximum .entry)) (now («has_maximum» .entry)) (now (edges .entry)) (now (grow .entry)) (now (shrink .entry)) (now (start .entry)) (now (end .entry)) (now («auto_start» .entry)) (now («auto_end» .entry)))) r (now (targets .entry)) (now (targets .exit)) ⌝ }
+    requires { ⌜ LineChecked inner gap (lists (now base) (now minimum) (now maximum) (now «has_maximum») (now edges)
+        (now grow) (now shrink) (now start) (now end) (now «auto_start») (now «auto_end»)) (now targets) ⌝ }
+    ensures { λ r. ⌜ LineAnswered (summed (outerSum (cleaned gap)
+        (itemsOf (lists (now (base .entry)) (now (minimum .entry)) (now (maximum .entry)) (now («has_maximum» .entry))
+        (now (edges .entry)) (now (grow .entry)) (now (shrink .entry)) (now (start .entry)) (now (end .entry))
+        (now («auto_start» .entry)) (now («auto_end» .entry)))))) (cleaned inner) (cleaned gap)
+        (itemsOf (lists (now (base .entry)) (now (minimum .entry)) (now (maximum .entry)) (now («has_maximum» .entry))
+        (now (edges .entry)) (now (grow .entry)) (now (shrink .entry)) (now (start .entry)) (now (end .entry))
+        (now («auto_start» .entry)) (now («auto_end» .entry)))) r (now (targets .entry)) (now (targets .exit)) ⌝ }
 {
     if base.len() <= 16 {
         return flex_few(
@@ -315,8 +362,9 @@ fn flex_checked<'a>(
     )
 }
 
-// Flexes one line: the n items of the lists, in a container of that inner main size and gap. `has_maximum` says 1 where an item has a maximum, and
-// `auto_start` and `auto_end` 1 where its margin is auto, which counts as 0 here. The targets are written to the first n cells.
+// Flexes one line: the n items of the lists, in a container of that inner main size and gap. `has_maximum` says 1 where
+// an item has a maximum, and `auto_start` and `auto_end` 1 where its margin is auto, which counts as 0 here. The
+// targets are written to the first n cells.
 pub fn flex_line<'a>(
     inner: f32,
     gap: f32,
@@ -333,7 +381,10 @@ pub fn flex_line<'a>(
     auto_end: &'a [u32],
     targets: &mut [f32],
 ) -> FlexAnswer
-    ensures { λ r. ⌜ FlexedLine inner gap (lists (now (base .entry)) (now (minimum .entry)) (now (maximum .entry)) (now («has_maximum» .entry)) (now (edges .entry)) (now (grow .entry)) (now (shrink .entry)) (now (start .entry)) (now (end .entry)) (now («auto_start» .entry)) (now («auto_end» .entry))) r (now (targets .entry)) (now (targets .exit)) ⌝ }
+    ensures { λ r. ⌜ FlexedLine inner gap (lists (now (base .entry)) (now (minimum .entry)) (now (maximum .entry))
+        (now («has_maximum» .entry)) (now (edges .entry)) (now (grow .entry)) (now (shrink .entry)) (now (start .entry))
+        (now (end .entry)) (now («auto_start» .entry)) (now («auto_end» .entry))) r (now (targets .entry))
+        (now (targets .exit)) ⌝ }
 {
     let v = flex_checks::check_line(
         inner,

@@ -1,5 +1,5 @@
-// The lines of a table one after another (document 01, "Flexible lengths"): each is flexed by its own items, and its free space and rounds are
-// listed by line. For calls that check what they take: none is an entry point.
+// The lines of a table one after another (document 01, "Flexible lengths"): each is flexed by its own items, and its
+// free space and rounds are listed by line. For calls that check what they take: none is an entry point.
 ghost use mathlib.Core.Path.{_≡_};
 ghost use Prim.Native.Nat.{_≤_, _<_};
 ghost use lib.ListN.{length};
@@ -50,7 +50,9 @@ fn flex_each<'a>(
     rounds: &mut [u32],
 ) -> u32
     requires { ⌜ Lined inner gap (now table) n (now counts) (now targets) (now free) (now rounds) ⌝ }
-    ensures { λ r. ⌜ Flowed inner gap (itemIn (now (table .entry))) (now (counts .entry)) (length (now (counts .entry))) r (now (targets .entry)) (now (free .entry)) (now (rounds .entry)) (now (targets .exit)) (now (free .exit)) (now (rounds .exit)) ⌝ }
+    ensures { λ r. ⌜ Flowed inner gap (itemIn (now (table .entry))) (now (counts .entry)) (length (now (counts .entry)))
+        r (now (targets .entry)) (now (free .entry)) (now (rounds .entry)) (now (targets .exit)) (now (free .exit))
+        (now (rounds .exit)) ⌝ }
 {
     let mut sum = 0;
     let mut start = 0;
@@ -81,7 +83,9 @@ pub fn flex_all<'a>(
     rounds: &mut [u32],
 ) -> u32
     requires { ⌜ Lined inner gap (now table) n (now counts) (now targets) (now free) (now rounds) ⌝ }
-    ensures { λ r. ⌜ FlexedLines inner gap (itemIn (now (table .entry))) n (now (counts .entry)) r (now (targets .entry)) (now (free .entry)) (now (rounds .entry)) (now (targets .exit)) (now (free .exit)) (now (rounds .exit)) ⌝ }
+    ensures { λ r. ⌜ FlexedLines inner gap (itemIn (now (table .entry))) n (now (counts .entry)) r
+        (now (targets .entry)) (now (free .entry)) (now (rounds .entry)) (now (targets .exit)) (now (free .exit))
+        (now (rounds .exit)) ⌝ }
 {
     let sum = flex_each(table, n, inner, gap, counts, targets, free, rounds);
     // "Cells past the last line get 0."

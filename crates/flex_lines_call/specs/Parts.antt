@@ -11,7 +11,8 @@ use Rattle.flex.specs.Accepted.{Even}
 use Rattle.lists.specs.ByLine.{lineStart}
 use Rattle.flex_checks.specs.Input.{inputOf}
 
-pub record CheckedLines (inner gap : Float) (counts : List ℕ) (ls : Lists) (targets : List Float) (free : List ℤ) (rounds : List ℕ) : Type 0 where
+pub record CheckedLines (inner gap : Float) (counts : List ℕ) (ls : Lists) (targets : List Float) (free : List ℤ)
+    (rounds : List ℕ) : Type 0 where
   pub even : Even ls
   pub sound : SoundInput (inputOf inner gap ls)
   pub whole : lineStart counts (length counts) ≡ count ls

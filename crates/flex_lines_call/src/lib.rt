@@ -1,4 +1,5 @@
-// The call that flexes many lines, on any bits: checks 1 to 6, and then each line flexed by its own items (document 01, "Flexible lengths").
+// The call that flexes many lines, on any bits: checks 1 to 6, and then each line flexed by its own items (document 01,
+// "Flexible lengths").
 ghost use Prim.Native.Nat.{_*_, _≤_};
 ghost use lib.ListN.{length};
 ghost use Rattle.grid.specs.Grid.{cleaned};
@@ -27,7 +28,9 @@ fn flex_lines_read<'a>(
     rounds: &mut [u32],
 ) -> Answer
     requires { ⌜ LinesDivided inner gap (now table) n (now counts) (now targets) (now free) (now rounds) ⌝ }
-    ensures { λ r. ⌜ AnsweredLines (summed (outerSum gap (itemsIn (now (table .entry)) 0 n))) inner gap (itemIn (now (table .entry))) n (now (counts .entry)) r (now (targets .entry)) (now (free .entry)) (now (rounds .entry)) (now (targets .exit)) (now (free .exit)) (now (rounds .exit)) ⌝ }
+    ensures { λ r. ⌜ AnsweredLines (summed (outerSum gap (itemsIn (now (table .entry)) 0 n))) inner gap
+        (itemIn (now (table .entry))) n (now (counts .entry)) r (now (targets .entry)) (now (free .entry))
+        (now (rounds .entry)) (now (targets .exit)) (now (free .exit)) (now (rounds .exit)) ⌝ }
 {
     let v = checks::check_sum(outer_sum(table, n, gap));
     match v {
@@ -63,8 +66,20 @@ fn flex_lines_in<'a>(
     free: &mut [i32],
     rounds: &mut [u32],
 ) -> Answer
-    requires { ⌜ CheckedLines inner gap (now counts) (lists (now base) (now minimum) (now maximum) (now «has_maximum») (now edges) (now grow) (now shrink) (now start) (now end) (now «auto_start») (now «auto_end»)) (now targets) (now free) (now rounds) × (8 * length (now base) ≤ length (now table)) ⌝ }
-    ensures { λ r. ⌜ AnsweredLines (summed (outerSum (cleaned gap) (itemsOf (lists (now (base .entry)) (now (minimum .entry)) (now (maximum .entry)) (now («has_maximum» .entry)) (now (edges .entry)) (now (grow .entry)) (now (shrink .entry)) (now (start .entry)) (now (end .entry)) (now («auto_start» .entry)) (now («auto_end» .entry)))))) (cleaned inner) (cleaned gap) (itemAt (lists (now (base .entry)) (now (minimum .entry)) (now (maximum .entry)) (now («has_maximum» .entry)) (now (edges .entry)) (now (grow .entry)) (now (shrink .entry)) (now (start .entry)) (now (end .entry)) (now («auto_start» .entry)) (now («auto_end» .entry)))) (count (lists (now (base .entry)) (now (minimum .entry)) (now (maximum .entry)) (now («has_maximum» .entry)) (now (edges .entry)) (now (grow .entry)) (now (shrink .entry)) (now (start .entry)) (now (end .entry)) (now («auto_start» .entry)) (now («auto_end» .entry)))) (now (counts .entry)) r (now (targets .entry)) (now (free .entry)) (now (rounds .entry)) (now (targets .exit)) (now (free .exit)) (now (rounds .exit)) ⌝ }
+    requires { ⌜ CheckedLines inner gap (now counts) (lists (now base) (now minimum) (now maximum) (now «has_maximum»)
+        (now edges) (now grow) (now shrink) (now start) (now end) (now «auto_start») (now «auto_end»)) (now targets)
+        (now free) (now rounds) × (8 * length (now base) ≤ length (now table)) ⌝ }
+    ensures { λ r. ⌜ AnsweredLines (summed (outerSum (cleaned gap)
+        (itemsOf (lists (now (base .entry)) (now (minimum .entry)) (now (maximum .entry)) (now («has_maximum» .entry))
+        (now (edges .entry)) (now (grow .entry)) (now (shrink .entry)) (now (start .entry)) (now (end .entry))
+        (now («auto_start» .entry)) (now («auto_end» .entry)))))) (cleaned inner) (cleaned gap)
+        (itemAt (lists (now (base .entry)) (now (minimum .entry)) (now (maximum .entry)) (now («has_maximum» .entry))
+        (now (edges .entry)) (now (grow .entry)) (now (shrink .entry)) (now (start .entry)) (now (end .entry))
+        (now («auto_start» .entry)) (now («auto_end» .entry))))
+        (count (lists (now (base .entry)) (now (minimum .entry)) (now (maximum .entry)) (now («has_maximum» .entry))
+        (now (edges .entry)) (now (grow .entry)) (now (shrink .entry)) (now (start .entry)) (now (end .entry))
+        (now («auto_start» .entry)) (now («auto_end» .entry)))) (now (counts .entry)) r (now (targets .entry))
+        (now (free .entry)) (now (rounds .entry)) (now (targets .exit)) (now (free .exit)) (now (rounds .exit)) ⌝ }
 {
     read_items(
         base,
@@ -112,8 +127,20 @@ fn flex_lines_few<'a>(
     free: &mut [i32],
     rounds: &mut [u32],
 ) -> Answer
-    requires { ⌜ CheckedLines inner gap (now counts) (lists (now base) (now minimum) (now maximum) (now «has_maximum») (now edges) (now grow) (now shrink) (now start) (now end) (now «auto_start») (now «auto_end»)) (now targets) (now free) (now rounds) × (length (now base) ≤ 16) ⌝ }
-    ensures { λ r. ⌜ AnsweredLines (summed (outerSum (cleaned gap) (itemsOf (lists (now (base .entry)) (now (minimum .entry)) (now (maximum .entry)) (now («has_maximum» .entry)) (now (edges .entry)) (now (grow .entry)) (now (shrink .entry)) (now (start .entry)) (now (end .entry)) (now («auto_start» .entry)) (now («auto_end» .entry)))))) (cleaned inner) (cleaned gap) (itemAt (lists (now (base .entry)) (now (minimum .entry)) (now (maximum .entry)) (now («has_maximum» .entry)) (now (edges .entry)) (now (grow .entry)) (now (shrink .entry)) (now (start .entry)) (now (end .entry)) (now («auto_start» .entry)) (now («auto_end» .entry)))) (count (lists (now (base .entry)) (now (minimum .entry)) (now (maximum .entry)) (now («has_maximum» .entry)) (now (edges .entry)) (now (grow .entry)) (now (shrink .entry)) (now (start .entry)) (now (end .entry)) (now («auto_start» .entry)) (now («auto_end» .entry)))) (now (counts .entry)) r (now (targets .entry)) (now (free .entry)) (now (rounds .entry)) (now (targets .exit)) (now (free .exit)) (now (rounds .exit)) ⌝ }
+    requires { ⌜ CheckedLines inner gap (now counts) (lists (now base) (now minimum) (now maximum) (now «has_maximum»)
+        (now edges) (now grow) (now shrink) (now start) (now end) (now «auto_start») (now «auto_end»)) (now targets)
+        (now free) (now rounds) × (length (now base) ≤ 16) ⌝ }
+    ensures { λ r. ⌜ AnsweredLines (summed (outerSum (cleaned gap)
+        (itemsOf (lists (now (base .entry)) (now (minimum .entry)) (now (maximum .entry)) (now («has_maximum» .entry))
+        (now (edges .entry)) (now (grow .entry)) (now (shrink .entry)) (now (start .entry)) (now (end .entry))
+        (now («auto_start» .entry)) (now («auto_end» .entry)))))) (cleaned inner) (cleaned gap)
+        (itemAt (lists (now (base .entry)) (now (minimum .entry)) (now (maximum .entry)) (now («has_maximum» .entry))
+        (now (edges .entry)) (now (grow .entry)) (now (shrink .entry)) (now (start .entry)) (now (end .entry))
+        (now («auto_start» .entry)) (now («auto_end» .entry))))
+        (count (lists (now (base .entry)) (now (minimum .entry)) (now (maximum .entry)) (now («has_maximum» .entry))
+        (now (edges .entry)) (now (grow .entry)) (now (shrink .entry)) (now (start .entry)) (now (end .entry))
+        (now («auto_start» .entry)) (now («auto_end» .entry)))) (now (counts .entry)) r (now (targets .entry))
+        (now (free .entry)) (now (rounds .entry)) (now (targets .exit)) (now (free .exit)) (now (rounds .exit)) ⌝ }
 {
     let mut table = [0.0; 128];
     flex_lines_in(
@@ -157,8 +184,20 @@ fn flex_lines_some<'a>(
     free: &mut [i32],
     rounds: &mut [u32],
 ) -> Answer
-    requires { ⌜ CheckedLines inner gap (now counts) (lists (now base) (now minimum) (now maximum) (now «has_maximum») (now edges) (now grow) (now shrink) (now start) (now end) (now «auto_start») (now «auto_end»)) (now targets) (now free) (now rounds) × (length (now base) ≤ 128) ⌝ }
-    ensures { λ r. ⌜ AnsweredLines (summed (outerSum (cleaned gap) (itemsOf (lists (now (base .entry)) (now (minimum .entry)) (now (maximum .entry)) (now («has_maximum» .entry)) (now (edges .entry)) (now (grow .entry)) (now (shrink .entry)) (now (start .entry)) (now (end .entry)) (now («auto_start» .entry)) (now («auto_end» .entry)))))) (cleaned inner) (cleaned gap) (itemAt (lists (now (base .entry)) (now (minimum .entry)) (now (maximum .entry)) (now («has_maximum» .entry)) (now (edges .entry)) (now (grow .entry)) (now (shrink .entry)) (now (start .entry)) (now (end .entry)) (now («auto_start» .entry)) (now («auto_end» .entry)))) (count (lists (now (base .entry)) (now (minimum .entry)) (now (maximum .entry)) (now («has_maximum» .entry)) (now (edges .entry)) (now (grow .entry)) (now (shrink .entry)) (now (start .entry)) (now (end .entry)) (now («auto_start» .entry)) (now («auto_end» .entry)))) (now (counts .entry)) r (now (targets .entry)) (now (free .entry)) (now (rounds .entry)) (now (targets .exit)) (now (free .exit)) (now (rounds .exit)) ⌝ }
+    requires { ⌜ CheckedLines inner gap (now counts) (lists (now base) (now minimum) (now maximum) (now «has_maximum»)
+        (now edges) (now grow) (now shrink) (now start) (now end) (now «auto_start») (now «auto_end»)) (now targets)
+        (now free) (now rounds) × (length (now base) ≤ 128) ⌝ }
+    ensures { λ r. ⌜ AnsweredLines (summed (outerSum (cleaned gap)
+        (itemsOf (lists (now (base .entry)) (now (minimum .entry)) (now (maximum .entry)) (now («has_maximum» .entry))
+        (now (edges .entry)) (now (grow .entry)) (now (shrink .entry)) (now (start .entry)) (now (end .entry))
+        (now («auto_start» .entry)) (now («auto_end» .entry)))))) (cleaned inner) (cleaned gap)
+        (itemAt (lists (now (base .entry)) (now (minimum .entry)) (now (maximum .entry)) (now («has_maximum» .entry))
+        (now (edges .entry)) (now (grow .entry)) (now (shrink .entry)) (now (start .entry)) (now (end .entry))
+        (now («auto_start» .entry)) (now («auto_end» .entry))))
+        (count (lists (now (base .entry)) (now (minimum .entry)) (now (maximum .entry)) (now («has_maximum» .entry))
+        (now (edges .entry)) (now (grow .entry)) (now (shrink .entry)) (now (start .entry)) (now (end .entry))
+        (now («auto_start» .entry)) (now («auto_end» .entry)))) (now (counts .entry)) r (now (targets .entry))
+        (now (free .entry)) (now (rounds .entry)) (now (targets .exit)) (now (free .exit)) (now (rounds .exit)) ⌝ }
 {
     let mut table = [0.0; 1024];
     flex_lines_in(
@@ -202,8 +241,20 @@ fn flex_lines_many<'a>(
     free: &mut [i32],
     rounds: &mut [u32],
 ) -> Answer
-    requires { ⌜ CheckedLines inner gap (now counts) (lists (now base) (now minimum) (now maximum) (now «has_maximum») (now edges) (now grow) (now shrink) (now start) (now end) (now «auto_start») (now «auto_end»)) (now targets) (now free) (now rounds) ⌝ }
-    ensures { λ r. ⌜ AnsweredLines (summed (outerSum (cleaned gap) (itemsOf (lists (now (base .entry)) (now (minimum .entry)) (now (maximum .entry)) (now («has_maximum» .entry)) (now (edges .entry)) (now (grow .entry)) (now (shrink .entry)) (now (start .entry)) (now (end .entry)) (now («auto_start» .entry)) (now («auto_end» .entry)))))) (cleaned inner) (cleaned gap) (itemAt (lists (now (base .entry)) (now (minimum .entry)) (now (maximum .entry)) (now («has_maximum» .entry)) (now (edges .entry)) (now (grow .entry)) (now (shrink .entry)) (now (start .entry)) (now (end .entry)) (now («auto_start» .entry)) (now («auto_end» .entry)))) (count (lists (now (base .entry)) (now (minimum .entry)) (now (maximum .entry)) (now («has_maximum» .entry)) (now (edges .entry)) (now (grow .entry)) (now (shrink .entry)) (now (start .entry)) (now (end .entry)) (now («auto_start» .entry)) (now («auto_end» .entry)))) (now (counts .entry)) r (now (targets .entry)) (now (free .entry)) (now (rounds .entry)) (now (targets .exit)) (now (free .exit)) (now (rounds .exit)) ⌝ }
+    requires { ⌜ CheckedLines inner gap (now counts) (lists (now base) (now minimum) (now maximum) (now «has_maximum»)
+        (now edges) (now grow) (now shrink) (now start) (now end) (now «auto_start») (now «auto_end»)) (now targets)
+        (now free) (now rounds) ⌝ }
+    ensures { λ r. ⌜ AnsweredLines (summed (outerSum (cleaned gap)
+        (itemsOf (lists (now (base .entry)) (now (minimum .entry)) (now (maximum .entry)) (now («has_maximum» .entry))
+        (now (edges .entry)) (now (grow .entry)) (now (shrink .entry)) (now (start .entry)) (now (end .entry))
+        (now («auto_start» .entry)) (now («auto_end» .entry)))))) (cleaned inner) (cleaned gap)
+        (itemAt (lists (now (base .entry)) (now (minimum .entry)) (now (maximum .entry)) (now («has_maximum» .entry))
+        (now (edges .entry)) (now (grow .entry)) (now (shrink .entry)) (now (start .entry)) (now (end .entry))
+        (now («auto_start» .entry)) (now («auto_end» .entry))))
+        (count (lists (now (base .entry)) (now (minimum .entry)) (now (maximum .entry)) (now («has_maximum» .entry))
+        (now (edges .entry)) (now (grow .entry)) (now (shrink .entry)) (now (start .entry)) (now (end .entry))
+        (now («auto_start» .entry)) (now («auto_end» .entry)))) (now (counts .entry)) r (now (targets .entry))
+        (now (free .entry)) (now (rounds .entry)) (now (targets .exit)) (now (free .exit)) (now (rounds .exit)) ⌝ }
 {
     let mut table = [0.0; 8192];
     flex_lines_in(
@@ -248,8 +299,20 @@ fn flex_lines_more<'a>(
     free: &mut [i32],
     rounds: &mut [u32],
 ) -> Answer
-    requires { ⌜ CheckedLines inner gap (now counts) (lists (now base) (now minimum) (now maximum) (now «has_maximum») (now edges) (now grow) (now shrink) (now start) (now end) (now «auto_start») (now «auto_end»)) (now targets) (now free) (now rounds) ⌝ }
-    ensures { λ r. ⌜ AnsweredLines (summed (outerSum (cleaned gap) (itemsOf (lists (now (base .entry)) (now (minimum .entry)) (now (maximum .entry)) (now («has_maximum» .entry)) (now (edges .entry)) (now (grow .entry)) (now (shrink .entry)) (now (start .entry)) (now (end .entry)) (now («auto_start» .entry)) (now («auto_end» .entry)))))) (cleaned inner) (cleaned gap) (itemAt (lists (now (base .entry)) (now (minimum .entry)) (now (maximum .entry)) (now («has_maximum» .entry)) (now (edges .entry)) (now (grow .entry)) (now (shrink .entry)) (now (start .entry)) (now (end .entry)) (now («auto_start» .entry)) (now («auto_end» .entry)))) (count (lists (now (base .entry)) (now (minimum .entry)) (now (maximum .entry)) (now («has_maximum» .entry)) (now (edges .entry)) (now (grow .entry)) (now (shrink .entry)) (now (start .entry)) (now (end .entry)) (now («auto_start» .entry)) (now («auto_end» .entry)))) (now (counts .entry)) r (now (targets .entry)) (now (free .entry)) (now (rounds .entry)) (now (targets .exit)) (now (free .exit)) (now (rounds .exit)) ⌝ }
+    requires { ⌜ CheckedLines inner gap (now counts) (lists (now base) (now minimum) (now maximum) (now «has_maximum»)
+        (now edges) (now grow) (now shrink) (now start) (now end) (now «auto_start») (now «auto_end»)) (now targets)
+        (now free) (now rounds) ⌝ }
+    ensures { λ r. ⌜ AnsweredLines (summed (outerSum (cleaned gap)
+        (itemsOf (lists (now (base .entry)) (now (minimum .entry)) (now (maximum .entry)) (now («has_maximum» .entry))
+        (now (edges .entry)) (now (grow .entry)) (now (shrink .entry)) (now (start .entry)) (now (end .entry))
+        (now («auto_start» .entry)) (now («auto_end» .entry)))))) (cleaned inner) (cleaned gap)
+        (itemAt (lists (now (base .entry)) (now (minimum .entry)) (now (maximum .entry)) (now («has_maximum» .entry))
+        (now (edges .entry)) (now (grow .entry)) (now (shrink .entry)) (now (start .entry)) (now (end .entry))
+        (now («auto_start» .entry)) (now («auto_end» .entry))))
+        (count (lists (now (base .entry)) (now (minimum .entry)) (now (maximum .entry)) (now («has_maximum» .entry))
+        (now (edges .entry)) (now (grow .entry)) (now (shrink .entry)) (now (start .entry)) (now (end .entry))
+        (now («auto_start» .entry)) (now («auto_end» .entry)))) (now (counts .entry)) r (now (targets .entry))
+        (now (free .entry)) (now (rounds .entry)) (now (targets .exit)) (now (free .exit)) (now (rounds .exit)) ⌝ }
 {
     if base.len() <= 128 {
         return flex_lines_some(
@@ -312,8 +375,20 @@ fn flex_lines_checked<'a>(
     free: &mut [i32],
     rounds: &mut [u32],
 ) -> Answer
-    requires { ⌜ CheckedLines inner gap (now counts) (lists (now base) (now minimum) (now maximum) (now «has_maximum») (now edges) (now grow) (now shrink) (now start) (now end) (now «auto_start») (now «auto_end»)) (now targets) (now free) (now rounds) ⌝ }
-    ensures { λ r. ⌜ AnsweredLines (summed (outerSum (cleaned gap) (itemsOf (lists (now (base .entry)) (now (minimum .entry)) (now (maximum .entry)) (now («has_maximum» .entry)) (now (edges .entry)) (now (grow .entry)) (now (shrink .entry)) (now (start .entry)) (now (end .entry)) (now («auto_start» .entry)) (now («auto_end» .entry)))))) (cleaned inner) (cleaned gap) (itemAt (lists (now (base .entry)) (now (minimum .entry)) (now (maximum .entry)) (now («has_maximum» .entry)) (now (edges .entry)) (now (grow .entry)) (now (shrink .entry)) (now (start .entry)) (now (end .entry)) (now («auto_start» .entry)) (now («auto_end» .entry)))) (count (lists (now (base .entry)) (now (minimum .entry)) (now (maximum .entry)) (now («has_maximum» .entry)) (now (edges .entry)) (now (grow .entry)) (now (shrink .entry)) (now (start .entry)) (now (end .entry)) (now («auto_start» .entry)) (now («auto_end» .entry)))) (now (counts .entry)) r (now (targets .entry)) (now (free .entry)) (now (rounds .entry)) (now (targets .exit)) (now (free .exit)) (now (rounds .exit)) ⌝ }
+    requires { ⌜ CheckedLines inner gap (now counts) (lists (now base) (now minimum) (now maximum) (now «has_maximum»)
+        (now edges) (now grow) (now shrink) (now start) (now end) (now «auto_start») (now «auto_end»)) (now targets)
+        (now free) (now rounds) ⌝ }
+    ensures { λ r. ⌜ AnsweredLines (summed (outerSum (cleaned gap)
+        (itemsOf (lists (now (base .entry)) (now (minimum .entry)) (now (maximum .entry)) (now («has_maximum» .entry))
+        (now (edges .entry)) (now (grow .entry)) (now (shrink .entry)) (now (start .entry)) (now (end .entry))
+        (now («auto_start» .entry)) (now («auto_end» .entry)))))) (cleaned inner) (cleaned gap)
+        (itemAt (lists (now (base .entry)) (now (minimum .entry)) (now (maximum .entry)) (now («has_maximum» .entry))
+        (now (edges .entry)) (now (grow .entry)) (now (shrink .entry)) (now (start .entry)) (now (end .entry))
+        (now («auto_start» .entry)) (now («auto_end» .entry))))
+        (count (lists (now (base .entry)) (now (minimum .entry)) (now (maximum .entry)) (now («has_maximum» .entry))
+        (now (edges .entry)) (now (grow .entry)) (now (shrink .entry)) (now (start .entry)) (now (end .entry))
+        (now («auto_start» .entry)) (now («auto_end» .entry)))) (now (counts .entry)) r (now (targets .entry))
+        (now (free .entry)) (now (rounds .entry)) (now (targets .exit)) (now (free .exit)) (now (rounds .exit)) ⌝ }
 {
     if base.len() <= 16 {
         return flex_lines_few(
@@ -357,8 +432,9 @@ fn flex_lines_checked<'a>(
     )
 }
 
-// Flexes many lines: line j has the next `counts[j]` of the n items of the lists, which are those of `flex_line`. The targets are written to the
-// first n cells, and free space in sixty-fourths and rounds by line, with 0 past the last line up to n. Answers the lines and the sum of the rounds.
+// Flexes many lines: line j has the next `counts[j]` of the n items of the lists, which are those of `flex_line`. The
+// targets are written to the first n cells, and free space in sixty-fourths and rounds by line, with 0 past the last
+// line up to n. Answers the lines and the sum of the rounds.
 pub fn flex_lines<'a>(
     inner: f32,
     gap: f32,
@@ -378,7 +454,11 @@ pub fn flex_lines<'a>(
     free: &mut [i32],
     rounds: &mut [u32],
 ) -> Answer
-    ensures { λ r. ⌜ FlexedByLine inner gap (now (counts .entry)) (lists (now (base .entry)) (now (minimum .entry)) (now (maximum .entry)) (now («has_maximum» .entry)) (now (edges .entry)) (now (grow .entry)) (now (shrink .entry)) (now (start .entry)) (now (end .entry)) (now («auto_start» .entry)) (now («auto_end» .entry))) r (now (targets .entry)) (now (free .entry)) (now (rounds .entry)) (now (targets .exit)) (now (free .exit)) (now (rounds .exit)) ⌝ }
+    ensures { λ r. ⌜ FlexedByLine inner gap (now (counts .entry))
+        (lists (now (base .entry)) (now (minimum .entry)) (now (maximum .entry)) (now («has_maximum» .entry))
+        (now (edges .entry)) (now (grow .entry)) (now (shrink .entry)) (now (start .entry)) (now (end .entry))
+        (now («auto_start» .entry)) (now («auto_end» .entry))) r (now (targets .entry)) (now (free .entry))
+        (now (rounds .entry)) (now (targets .exit)) (now (free .exit)) (now (rounds .exit)) ⌝ }
 {
     let v = flex_checks::lines::check_lines(
         inner,

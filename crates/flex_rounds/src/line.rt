@@ -1,4 +1,5 @@
-// A line: its free space before flexing, the items that are frozen at first, and the rounds while an item is unfrozen. No entry points.
+// A line: its free space before flexing, the items that are frozen at first, and the rounds while an item is unfrozen.
+// No entry points.
 ghost use mathlib.Core.Path.{_≡_};
 ghost use mathlib.Core.List.{map};
 ghost use Prim.Native.Nat.{ℕ, _+_, _≤_, _<_};
@@ -37,7 +38,8 @@ fn hypothetical_sum(table: &[f32], from: usize, n: usize) -> f32
     s
 }
 
-// The free space before flexing. On accepted lines the sums are exact, so the difference is taken in whole sixty-fourths.
+// The free space before flexing. On accepted lines the sums are exact, so the difference is taken in whole
+// sixty-fourths.
 fn free_before(table: &[f32], from: usize, n: usize, inner: f32, gap: f32) -> grid::Sixtyfourths
     requires { ⌜ Wide (now table) (from + n) × Accepted inner gap (itemsIn (now table) from n) ⌝ }
     ensures { λ r. ⌜ r .0 ≡ freeBefore inner gap (itemsIn (now (table .entry)) from n) ⌝ }
@@ -58,7 +60,8 @@ fn begin(
     targets: &mut [f32],
 )
     requires { ⌜ LineRoom (now table) from n (now frozen) (now targets) ⌝ }
-    ensures { λ _. ⌜ Rewritten (now (table .entry)) from n (map (startCell growing) (itemsIn (now (table .entry)) from n)) (now (targets .entry)) (now (frozen .exit)) (now (targets .exit)) ⌝ }
+    ensures { λ _. ⌜ Rewritten (now (table .entry)) from n (map (startCell growing)
+        (itemsIn (now (table .entry)) from n)) (now (targets .entry)) (now (frozen .exit)) (now (targets .exit)) ⌝ }
 {
     let mut i = 0;
     while i < n {
@@ -69,7 +72,8 @@ fn begin(
     }
 }
 
-// Step 4: the rounds, counted, from the sums before the first. Each freezes an item, so that there are no more of them than items.
+// Step 4: the rounds, counted, from the sums before the first. Each freezes an item, so that there are no more of them
+// than items.
 fn run_rounds(
     table: &[f32],
     from: usize,
@@ -79,8 +83,10 @@ fn run_rounds(
     frozen: &mut [bool],
     targets: &mut [f32],
 ) -> u32
-    requires { ⌜ LineRoom (now table) from n (now frozen) (now targets) × Summed (ln .growing) (cellsOf (now table) from n (now frozen) (now targets)) first ⌝ }
-    ensures { λ r. ⌜ Ran (now (table .entry)) from n ln r (now (frozen .entry)) (now (targets .entry)) (now (frozen .exit)) (now (targets .exit)) ⌝ }
+    requires { ⌜ LineRoom (now table) from n (now frozen) (now targets)
+        × Summed (ln .growing) (cellsOf (now table) from n (now frozen) (now targets)) first ⌝ }
+    ensures { λ r. ⌜ Ran (now (table .entry)) from n ln r (now (frozen .entry)) (now (targets .entry))
+        (now (frozen .exit)) (now (targets .exit)) ⌝ }
 {
     let mut s = first;
     let mut rounds = 0;
@@ -95,7 +101,8 @@ fn run_rounds(
 // Step 5: no target is -0.0.
 fn tidy(targets: &mut [f32], n: usize)
     requires { ⌜ n ≤ length (now targets) ⌝ }
-    ensures { λ _. ⌜ ((k : ℕ) → k < n → getD (now (targets .exit)) k nan ≡ cleaned (getD (now (targets .entry)) k nan)) ⌝ }
+    ensures { λ _. ⌜ ((k : ℕ) → k < n → getD (now (targets .exit)) k nan
+        ≡ cleaned (getD (now (targets .entry)) k nan)) ⌝ }
     ensures { λ _. ⌜ Kept n (now (targets .entry)) (now (targets .exit)) ⌝ }
 {
     let mut i = 0;
@@ -121,8 +128,10 @@ fn flex_marked(
     frozen: &mut [bool],
     targets: &mut [f32],
 ) -> Flexing
-    requires { ⌜ LineRoom (now table) from n (now frozen) (now targets) × Accepted inner gap (itemsIn (now table) from n) ⌝ }
-    ensures { λ r. ⌜ Flexed inner gap (itemsIn (now (table .entry)) from n) (r .free .0) (r .rounds) (now (targets .entry)) (now (targets .exit)) ⌝ }
+    requires { ⌜ LineRoom (now table) from n (now frozen) (now targets)
+        × Accepted inner gap (itemsIn (now table) from n) ⌝ }
+    ensures { λ r. ⌜ Flexed inner gap (itemsIn (now (table .entry)) from n) (r .free .0) (r .rounds)
+        (now (targets .entry)) (now (targets .exit)) ⌝ }
 {
     let free = free_before(table, from, n, inner, gap);
     let growing = is_growing(free);
@@ -142,8 +151,8 @@ fn flex_marked(
     }
 }
 
-// Flexes the n items at `from`, which the checks have accepted. The marks are of the frame, as few as serve, so that a short line clears few. No entry
-// point: what it asks is what the checks show.
+// Flexes the n items at `from`, which the checks have accepted. The marks are of the frame, as few as serve, so that a
+// short line clears few. No entry point: what it asks is what the checks show.
 pub fn flex_items(
     table: &[f32],
     from: usize,
@@ -152,8 +161,10 @@ pub fn flex_items(
     gap: f32,
     targets: &mut [f32],
 ) -> Flexing
-    requires { ⌜ Wide (now table) (from + n) × (n ≤ length (now targets)) × Accepted inner gap (itemsIn (now table) from n) ⌝ }
-    ensures { λ r. ⌜ Flexed inner gap (itemsIn (now (table .entry)) from n) (r .free .0) (r .rounds) (now (targets .entry)) (now (targets .exit)) ⌝ }
+    requires { ⌜ Wide (now table) (from + n) × (n ≤ length (now targets))
+        × Accepted inner gap (itemsIn (now table) from n) ⌝ }
+    ensures { λ r. ⌜ Flexed inner gap (itemsIn (now (table .entry)) from n) (r .free .0) (r .rounds)
+        (now (targets .entry)) (now (targets .exit)) ⌝ }
 {
     if n <= 16 {
         let mut few = [false; 16];

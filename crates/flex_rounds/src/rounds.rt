@@ -15,7 +15,8 @@ use flex::sizes::flexed_size;
 use flex::sizes::is_frozen;
 use flex_table::pick;
 
-// The sums before a round: what all items take, the factors and weights of the unfrozen ones, and how many those are. No entry point.
+// The sums before a round: what all items take, the factors and weights of the unfrozen ones, and how many those are.
+// No entry point.
 pub fn sum_up(
     table: &[f32],
     from: usize,
@@ -25,7 +26,8 @@ pub fn sum_up(
     targets: &[f32],
 ) -> Sums
     requires { ⌜ LineRoom (now table) from n (now frozen) (now targets) ⌝ }
-    ensures { λ r. ⌜ Summed growing (cellsOf (now (table .entry)) from n (now (frozen .entry)) (now (targets .entry))) r ⌝ }
+    ensures { λ r. ⌜ Summed growing (cellsOf (now (table .entry)) from n (now (frozen .entry)) (now (targets .entry)))
+        r ⌝ }
 {
     let mut s = Sums {
         outer: 0.0,
@@ -52,8 +54,11 @@ fn flex_sizes(
     targets: &mut [f32],
 ) -> f32
     requires { ⌜ LineRoom (now table) from n (now frozen) (now targets) ⌝ }
-    ensures { λ r. ⌜ r ≡ total (λ c. violation sh (c .item)) (left (cellsOf (now (table .entry)) from n (now (frozen .entry)) (now (targets .entry)))) ⌝ }
-    ensures { λ _. ⌜ Rewritten (now (table .entry)) from n (map (sized sh) (cellsOf (now (table .entry)) from n (now (frozen .entry)) (now (targets .entry)))) (now (targets .entry)) (now (frozen .entry)) (now (targets .exit)) ⌝ }
+    ensures { λ r. ⌜ r ≡ total (λ c. violation sh (c .item))
+        (left (cellsOf (now (table .entry)) from n (now (frozen .entry)) (now (targets .entry)))) ⌝ }
+    ensures { λ _. ⌜ Rewritten (now (table .entry)) from n (map (sized sh)
+        (cellsOf (now (table .entry)) from n (now (frozen .entry)) (now (targets .entry)))) (now (targets .entry))
+        (now (frozen .entry)) (now (targets .exit)) ⌝ }
 {
     let mut sum = 0.0;
     let mut i = 0;
@@ -81,7 +86,9 @@ fn settle_all(
     targets: &mut [f32],
 )
     requires { ⌜ LineRoom (now table) from n (now frozen) (now targets) ⌝ }
-    ensures { λ _. ⌜ Rewritten (now (table .entry)) from n (map (settled sum) (cellsOf (now (table .entry)) from n (now (frozen .entry)) (now (targets .entry)))) (now (targets .entry)) (now (frozen .exit)) (now (targets .exit)) ⌝ }
+    ensures { λ _. ⌜ Rewritten (now (table .entry)) from n (map (settled sum)
+        (cellsOf (now (table .entry)) from n (now (frozen .entry)) (now (targets .entry)))) (now (targets .entry))
+        (now (frozen .exit)) (now (targets .exit)) ⌝ }
 {
     let mut i = 0;
     while i < n {
@@ -108,8 +115,11 @@ pub fn one_round(
     frozen: &mut [bool],
     targets: &mut [f32],
 )
-    requires { ⌜ LineRoom (now table) from n (now frozen) (now targets) × Summed (ln .growing) (cellsOf (now table) from n (now frozen) (now targets)) s ⌝ }
-    ensures { λ _. ⌜ Rewritten (now (table .entry)) from n (round ln (cellsOf (now (table .entry)) from n (now (frozen .entry)) (now (targets .entry)))) (now (targets .entry)) (now (frozen .exit)) (now (targets .exit)) ⌝ }
+    requires { ⌜ LineRoom (now table) from n (now frozen) (now targets)
+        × Summed (ln .growing) (cellsOf (now table) from n (now frozen) (now targets)) s ⌝ }
+    ensures { λ _. ⌜ Rewritten (now (table .entry)) from n (round ln
+        (cellsOf (now (table .entry)) from n (now (frozen .entry)) (now (targets .entry)))) (now (targets .entry))
+        (now (frozen .exit)) (now (targets .exit)) ⌝ }
 {
     let sh = share_of(ln, n, s);
     let sum = flex_sizes(table, from, n, sh, frozen, targets);

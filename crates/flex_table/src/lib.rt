@@ -1,5 +1,5 @@
-// The items of a call in one table of numbers, eight cells for each item and one item after another, so that every step of flexing takes one list.
-// No entry points.
+// The items of a call in one table of numbers, eight cells for each item and one item after another, so that every step
+// of flexing takes one list. No entry points.
 ghost use mathlib.Core.Path.{_≡_};
 ghost use Prim.Native.Nat.{_+_, _*_, _<_};
 ghost use mathlib.Core.Bool.{cond, false};
@@ -34,7 +34,8 @@ pub fn pick(table: &[f32], i: usize) -> Item
 // A list of the items' numbers, each as its item's cell of that place. -0.0 is read as 0.0. No entry point.
 pub fn store(xs: &[f32], column: usize, table: &mut [f32])
     requires { ⌜ Wide (now table) (length (now xs)) × (column < 8) ⌝ }
-    ensures { λ _. ⌜ NumberStored column (length (now (xs .entry))) (read (now (xs .entry))) (now (table .entry)) (now (table .exit)) ⌝ }
+    ensures { λ _. ⌜ NumberStored column (length (now (xs .entry))) (read (now (xs .entry))) (now (table .entry))
+        (now (table .exit)) ⌝ }
 {
     let mut i = 0;
     while i < xs.len() {
@@ -60,7 +61,8 @@ fn store_where<'a>(
     table: &mut [f32],
 )
     requires { ⌜ Wide (now table) (length (now xs)) × (column < 8) × (length (now codes) ≡ length (now xs)) ⌝ }
-    ensures { λ _. ⌜ NumberStored column (length (now (xs .entry))) (readWhere (now (xs .entry)) (now (codes .entry)) taken other) (now (table .entry)) (now (table .exit)) ⌝ }
+    ensures { λ _. ⌜ NumberStored column (length (now (xs .entry)))
+        (readWhere (now (xs .entry)) (now (codes .entry)) taken other) (now (table .entry)) (now (table .exit)) ⌝ }
 {
     let mut i = 0;
     while i < xs.len() {
@@ -92,8 +94,12 @@ pub fn read_items<'a>(
     auto_end: &'a [u32],
     table: &mut [f32],
 )
-    requires { ⌜ Even (lists (now base) (now minimum) (now maximum) (now «has_maximum») (now edges) (now grow) (now shrink) (now start) (now end) (now «auto_start») (now «auto_end»)) × Wide (now table) (length (now base)) ⌝ }
-    ensures { λ _. ⌜ Held (lists (now (base .entry)) (now (minimum .entry)) (now (maximum .entry)) (now («has_maximum» .entry)) (now (edges .entry)) (now (grow .entry)) (now (shrink .entry)) (now (start .entry)) (now (end .entry)) (now («auto_start» .entry)) (now («auto_end» .entry))) (now (table .exit)) ⌝ }
+    requires { ⌜ Even (lists (now base) (now minimum) (now maximum) (now «has_maximum») (now edges) (now grow)
+        (now shrink) (now start) (now end) (now «auto_start») (now «auto_end»))
+        × Wide (now table) (length (now base)) ⌝ }
+    ensures { λ _. ⌜ Held (lists (now (base .entry)) (now (minimum .entry)) (now (maximum .entry))
+        (now («has_maximum» .entry)) (now (edges .entry)) (now (grow .entry)) (now (shrink .entry)) (now (start .entry))
+        (now (end .entry)) (now («auto_start» .entry)) (now («auto_end» .entry))) (now (table .exit)) ⌝ }
     ensures { λ _. ⌜ Kept (8 * length (now (base .entry))) (now (table .entry)) (now (table .exit)) ⌝ }
 {
     store(base, 0, table);

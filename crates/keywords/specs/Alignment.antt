@@ -29,7 +29,8 @@ distributionOf c = getD distributions c SpaceEvenly
 
 -- `justify-content` and `align-content`: 0 to 4 a position, 5 to 9 a safe one, 10 to 13 a distribution
 unfoldable pub contentOf : ℕ → ContentAlignment
-contentOf c = cond (ltb c 5) (Unsafe (positionOf c)) (cond (ltb c 10) (Safe (positionOf (c - 5))) (Spread (distributionOf (c - 10))))
+contentOf c = cond (ltb c 5) (Unsafe (positionOf c)) (cond (ltb c 10) (Safe (positionOf (c - 5)))
+    (Spread (distributionOf (c - 10))))
 
 -- `align-self`: 0 to 4 a position, 5 to 9 a safe one, 10 stretch
 unfoldable pub selfOf : ℕ → SelfAlignment

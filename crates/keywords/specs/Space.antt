@@ -1,4 +1,5 @@
--- Document 01, "Break limit" and "Cross axis": the kinds of available space, and minima and maxima that may be absent. Assumes nothing.
+-- Document 01, "Break limit" and "Cross axis": the kinds of available space, and minima and maxima that may be absent.
+-- Assumes nothing.
 use mathlib.Core.Bool.{cond}
 use Prim.Native.Nat.{ℕ, zero, suc}
 use lib.Dec.{eqb}

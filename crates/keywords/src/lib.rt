@@ -1,5 +1,5 @@
-// The keywords that hosts hand in, as codes and as enums (document 01): spaces, bounds, wrapping and alignment. Breaking and placing share them. No entry
-// points: a call refuses a code that names nothing before it asks.
+// The keywords that hosts hand in, as codes and as enums (document 01): spaces, bounds, wrapping and alignment.
+// Breaking and placing share them. No entry points: a call refuses a code that names nothing before it asks.
 ghost use mathlib.Core.Path.{_≡_};
 ghost use Rattle.keywords.specs.Space.{spaceOf, boundOf, raisedTo, loweredTo, readBound};
 ghost use Rattle.keywords.specs.Wrapping.{wrapOf, modeOf, isSingleLine, isReversed};

@@ -1,4 +1,5 @@
-// Lent lists of cells: clearing a range, and copying. Every wing writes with them. No entry points: the cells are there.
+// Lent lists of cells: clearing a range, and copying. Every wing writes with them. No entry points: the cells are
+// there.
 ghost use mathlib.Core.Path.{_≡_};
 ghost use Prim.Native.Nat.{_≤_, _<_};
 ghost use lib.ListN.{length, set};

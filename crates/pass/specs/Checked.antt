@@ -14,5 +14,6 @@ use Rattle.pass.specs.Laid.{PassLent}
 
 -- what checks 1 to 5 show
 pub record PassChecked (c : Container) (n : ℕ) (x : List Float) (codes : List ℕ) (b : PassLent) : Type 0 where
-  pub room : shape n (passRoom n (breakMode c) (length x) (length codes) (length (b .placed)) (length (b .lines)) (length (b .counts)) (length (b .rounds)) (length (b .free)) (length (b .work)) (length (b .sums))) ≡ Passed
+  pub room : shape n (passRoom n (breakMode c) (length x) (length codes) (length (b .placed)) (length (b .lines))
+      (length (b .counts)) (length (b .rounds)) (length (b .free)) (length (b .work)) (length (b .sums))) ≡ Passed
   pub sound : SoundInput (passInput c n x codes)

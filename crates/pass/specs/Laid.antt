@@ -1,4 +1,5 @@
--- AN ACCEPTED RUN of the whole pass: document 01's sections in their order, each by its own definition, on what the one before it answers. Assumes nothing.
+-- AN ACCEPTED RUN of the whole pass: document 01's sections in their order, each by its own definition, on what the one
+-- before it answers. Assumes nothing.
 use mathlib.Core.List.{List, []}
 use Prim.Native.Nat.{ℕ, _*_}
 use lib.ListN.{take}
@@ -23,8 +24,8 @@ use Rattle.pass_container.specs.Container.{limitSpace, reversed, wrapMode, brea
 
 -- ---- the lent lists
 
--- `placed` holds eight lists by item: main size, main offset, used main margins (start, end), cross size, cross offset, used cross margins (start,
--- end); `lines` two by line: cross sizes, cross offsets
+-- `placed` holds eight lists by item: main size, main offset, used main margins (start, end), cross size, cross offset,
+-- used cross margins (start, end); `lines` two by line: cross sizes, cross offsets
 pub record PassLent : Type 0 where
   pub placed : List Float
   pub lines : List Float
@@ -71,17 +72,29 @@ laidLineOffset n l = column n 1 (l .lines)
 -- ---- an accepted run
 
 -- so many lines, the sum of their rounds, and the container's inner cross size
-pub record Laid (c : Container) (n : ℕ) (x : List Float) (codes : List ℕ) (before : PassLent) (lines sum : ℕ) (inner : Float) (after : PassLent) : Type 0 where
+pub record Laid (c : Container) (n : ℕ) (x : List Float) (codes : List ℕ) (before : PassLent) (lines sum : ℕ)
+    (inner : Float) (after : PassLent) : Type 0 where
   -- "Breaking", of the hypothetical outer main sizes
-  pub broken : wrapping.Wrapped (breakMode c) (limitSpace c) (cleaned (c .«gap_main»)) (c .«minimum_lines») (outerSizes (itemsOf (mainLists n x codes))) (balance.breakLent (before .counts) (before .work) (before .sums)) lines (balance.breakLent (after .counts) (after .work) (after .sums))
+  pub broken : wrapping.Wrapped (breakMode c) (limitSpace c) (cleaned (c .«gap_main»)) (c .«minimum_lines»)
+      (outerSizes (itemsOf (mainLists n x codes))) (balance.breakLent (before .counts) (before .work) (before .sums))
+      lines (balance.breakLent (after .counts) (after .work) (after .sums))
   -- "Flexible lengths", of each line
-  pub flexed : FlexedLines (cleaned (c .«inner_main»)) (cleaned (c .«gap_main»)) (itemAt (mainLists n x codes)) n (take lines (after .counts)) sum (zeros n) (before .free) (before .rounds) (placedMainSize n after) (after .free) (after .rounds)
+  pub flexed : FlexedLines (cleaned (c .«inner_main»)) (cleaned (c .«gap_main»)) (itemAt (mainLists n x codes)) n
+      (take lines (after .counts)) sum (zeros n) (before .free) (before .rounds) (placedMainSize n after) (after .free)
+      (after .rounds)
   -- "Main axis", of each line
-  pub spaced : MainLines (c .«inner_main») (c .«gap_main») (contentOf (c .«justify_content»)) (reversed c) (take lines (after .counts)) (mainItems n x codes (placedMainSize n after)) (zeros n) (zeros n) (zeros n) (placedMainOffset n after) (placedMainStart n after) (placedMainEnd n after)
-  -- "Cross axis": the lines, sized by their items, along it. Sizes and offsets are put over n zeros: "cells past the last line get 0"
-  pub aligned : Aligned (crossAxis c) (contentOf (c .«align_content»)) (crossSizes (crossAxis c) (take lines (after .counts)) (crossItems n x codes) []) (zeros n) (zeros n) inner (laidLineSize n after) (laidLineOffset n after)
+  pub spaced : MainLines (c .«inner_main») (c .«gap_main») (contentOf (c .«justify_content»)) (reversed c)
+      (take lines (after .counts)) (mainItems n x codes (placedMainSize n after)) (zeros n) (zeros n) (zeros n)
+      (placedMainOffset n after) (placedMainStart n after) (placedMainEnd n after)
+  -- "Cross axis": the lines, sized by their items, along it. Sizes and offsets are put over n zeros: "cells past the
+  -- last line get 0"
+  pub aligned : Aligned (crossAxis c) (contentOf (c .«align_content»))
+      (crossSizes (crossAxis c) (take lines (after .counts)) (crossItems n x codes) []) (zeros n) (zeros n) inner
+      (laidLineSize n after) (laidLineOffset n after)
   -- and the items across each line
-  pub across : AcrossLines (isReversed (wrapMode c)) (take lines (after .counts)) (laidLineSize n after) (crossItems n x codes) (alignSelf n codes) (autoSize n codes) (zeros n) (zeros n) (zeros n) (zeros n) (placedCrossSize n after) (placedCrossStart n after) (placedCrossEnd n after) (placedCrossOffset n after)
+  pub across : AcrossLines (isReversed (wrapMode c)) (take lines (after .counts)) (laidLineSize n after)
+      (crossItems n x codes) (alignSelf n codes) (autoSize n codes) (zeros n) (zeros n) (zeros n) (zeros n)
+      (placedCrossSize n after) (placedCrossStart n after) (placedCrossEnd n after) (placedCrossOffset n after)
   -- "all cells past the named ones are unchanged"
   pub placed-past : Past (8 * n) (before .placed) (after .placed)
   pub lines-past : Past (2 * n) (before .lines) (after .lines)

@@ -16,12 +16,14 @@ use Rattle.pass.specs.declared.PassAnswer.the-variants.{Done, Refused}
 -- checks 1 to 6, with the room of the lent lists
 abbrev pub lentVerdict : Container → ℕ → List Float → List ℕ → PassLent → Verdict
 lentVerdict c n x codes b =
-    passVerdict c n x codes (passRoom n (breakMode c) (length x) (length codes) (length (b .placed)) (length (b .lines)) (length (b .counts)) (length (b .rounds)) (length (b .free)) (length (b .work)) (length (b .sums)))
+    passVerdict c n x codes (passRoom n (breakMode c) (length x) (length codes) (length (b .placed)) (length (b .lines))
+    (length (b .counts)) (length (b .rounds)) (length (b .free)) (length (b .work)) (length (b .sums)))
 
 -- a refusal changes no cell
 abbrev pub PassAnswered : Verdict → Container → ℕ → List Float → List ℕ → PassLent → PassAnswer → PassLent → Type 0
 PassAnswered v c n x codes before (Refused why) after = (v ≡ verdict.Refused why) × (after ≡ before)
-PassAnswered v c n x codes before (Done lines sum inner) after = (v ≡ verdict.Passed) × Laid c n x codes before lines sum inner after
+PassAnswered v c n x codes before (Done lines sum inner) after =
+    (v ≡ verdict.Passed) × Laid c n x codes before lines sum inner after
 
 -- THE CALL: it refuses by checks 1 to 6 and changes nothing, or its answer and its cells are those of an accepted run
 abbrev pub PassCall : Container → ℕ → List Float → List ℕ → PassLent → PassAnswer → PassLent → Type 0

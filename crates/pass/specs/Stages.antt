@@ -25,14 +25,16 @@ pub record CrossAsked (n : ℕ) (x : List Float) (codes counts : List ℕ) (line
   pub placed-room : 8 * n ≤ length placed
 
 -- the lines along it, and the items across each in the line's size
-pub record CrossLaid (c : Container) (n : ℕ) (x : List Float) (codes counts : List ℕ) (inner : Float) (lines₀ placed₀ lines placed : List Float) : Type 0 where
+pub record CrossLaid (c : Container) (n : ℕ) (x : List Float) (codes counts : List ℕ) (inner : Float)
+    (lines₀ placed₀ lines placed : List Float) : Type 0 where
   pub along : LinesPlaced c n x codes counts inner lines₀ lines
   pub across : ItemsAcross c n x codes counts (column n 0 lines) placed₀ placed
 
 -- ---- the lines, and the main axis of each
 
 -- what checks 1 to 6 show, once the items are read into the table
-pub record MainAsked (c : Container) (n : ℕ) (t x : List Float) (codes : List ℕ) (placed : List Float) (counts rounds : List ℕ) (free : List ℤ) (work : List ℕ) (sums : List Float) : Type 0 where
+pub record MainAsked (c : Container) (n : ℕ) (t x : List Float) (codes : List ℕ) (placed : List Float)
+    (counts rounds : List ℕ) (free : List ℤ) (work : List ℕ) (sums : List Float) : Type 0 where
   pub listed : ItemLists n x codes
   pub held : Held (mainLists n x codes) t
   pub tabled : Tabled t n
@@ -45,7 +47,9 @@ pub record MainAsked (c : Container) (n : ℕ) (t x : List Float) (codes : List 
   pub rounds-room : n ≤ length rounds
   pub free-room : n ≤ length free
 
-pub record MainLaid (c : Container) (n : ℕ) (t x : List Float) (codes : List ℕ) (placed₀ : List Float) (counts₀ rounds₀ : List ℕ) (free₀ : List ℤ) (work₀ : List ℕ) (sums₀ : List Float) (lines sum : ℕ) (placed : List Float) (counts rounds : List ℕ) (free : List ℤ) (work : List ℕ) (sums : List Float) : Type 0 where
+pub record MainLaid (c : Container) (n : ℕ) (t x : List Float) (codes : List ℕ) (placed₀ : List Float)
+    (counts₀ rounds₀ : List ℕ) (free₀ : List ℤ) (work₀ : List ℕ) (sums₀ : List Float) (lines sum : ℕ)
+    (placed : List Float) (counts rounds : List ℕ) (free : List ℤ) (work : List ℕ) (sums : List Float) : Type 0 where
   pub broken : LinesBroken c n t (balance.breakLent counts₀ work₀ sums₀) lines (balance.breakLent counts work sums)
   pub main : MainStage c n x codes (take lines counts) placed₀ free₀ rounds₀ sum placed free rounds
 

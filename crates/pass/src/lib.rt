@@ -1,5 +1,5 @@
-// The whole pass on plain lists: breaking, flexing, the main axis and the cross axis of one container, each stage on what the one before
-// it answers. Stages are no entry points: they ask what the checks have shown.
+// The whole pass on plain lists: breaking, flexing, the main axis and the cross axis of one container, each stage on
+// what the one before it answers. Stages are no entry points: they ask what the checks have shown.
 ghost use Rattle.pass.specs.Laid.{passLent, Laid};
 ghost use Rattle.pass.specs.Stages.{CrossAsked, CrossLaid, MainAsked, MainLaid, PassAccepted};
 ghost use Rattle.checks.specs.Domain.{summed};
@@ -25,7 +25,8 @@ fn lay_cross<'a>(
     placed: &mut [f32],
 ) -> f32
     requires { ⌜ CrossAsked n (now numbers) (now codes) (now counts) (now lines) (now placed) ⌝ }
-    ensures { λ r. ⌜ CrossLaid c n (now (numbers .entry)) (now (codes .entry)) (now (counts .entry)) r (now (lines .entry)) (now (placed .entry)) (now (lines .exit)) (now (placed .exit)) ⌝ }
+    ensures { λ r. ⌜ CrossLaid c n (now (numbers .entry)) (now (codes .entry)) (now (counts .entry)) r
+        (now (lines .entry)) (now (placed .entry)) (now (lines .exit)) (now (placed .exit)) ⌝ }
 {
     let inner = lines_along(c, n, numbers, codes, counts, lines);
     items_across(c, n, numbers, codes, counts, &lines[..n], placed);
@@ -52,8 +53,12 @@ fn lay_main<'a>(
     work: &mut [u32],
     sums: &mut [f64],
 ) -> Lines
-    requires { ⌜ MainAsked c n (now table) (now numbers) (now codes) (now placed) (now counts) (now rounds) (now free) (now work) (now sums) ⌝ }
-    ensures { λ r. ⌜ MainLaid c n (now (table .entry)) (now (numbers .entry)) (now (codes .entry)) (now (placed .entry)) (now (counts .entry)) (now (rounds .entry)) (now (free .entry)) (now (work .entry)) (now (sums .entry)) (r .count) (r .rounds) (now (placed .exit)) (now (counts .exit)) (now (rounds .exit)) (now (free .exit)) (now (work .exit)) (now (sums .exit)) ⌝ }
+    requires { ⌜ MainAsked c n (now table) (now numbers) (now codes) (now placed) (now counts) (now rounds) (now free)
+        (now work) (now sums) ⌝ }
+    ensures { λ r. ⌜ MainLaid c n (now (table .entry)) (now (numbers .entry)) (now (codes .entry)) (now (placed .entry))
+        (now (counts .entry)) (now (rounds .entry)) (now (free .entry)) (now (work .entry)) (now (sums .entry))
+        (r .count) (r .rounds) (now (placed .exit)) (now (counts .exit)) (now (rounds .exit)) (now (free .exit))
+        (now (work .exit)) (now (sums .exit)) ⌝ }
 {
     let k = break_items(c, n, table, counts, work, sums);
     let sum = place_main_axis(
@@ -95,8 +100,13 @@ pub fn lay_out<'a>(
     work: &mut [u32],
     sums: &mut [f64],
 ) -> Layout
-    requires { ⌜ PassAccepted c n (now table) (now numbers) (now codes) (passLent (now placed) (now lines) (now counts) (now rounds) (now free) (now work) (now sums)) ⌝ }
-    ensures { λ r. ⌜ Laid c n (now (numbers .entry)) (now (codes .entry)) (passLent (now (placed .entry)) (now (lines .entry)) (now (counts .entry)) (now (rounds .entry)) (now (free .entry)) (now (work .entry)) (now (sums .entry))) (r .lines) (r .rounds) (r .«inner_cross») (passLent (now (placed .exit)) (now (lines .exit)) (now (counts .exit)) (now (rounds .exit)) (now (free .exit)) (now (work .exit)) (now (sums .exit))) ⌝ }
+    requires { ⌜ PassAccepted c n (now table) (now numbers) (now codes)
+        (passLent (now placed) (now lines) (now counts) (now rounds) (now free) (now work) (now sums)) ⌝ }
+    ensures { λ r. ⌜ Laid c n (now (numbers .entry)) (now (codes .entry))
+        (passLent (now (placed .entry)) (now (lines .entry)) (now (counts .entry)) (now (rounds .entry))
+        (now (free .entry)) (now (work .entry)) (now (sums .entry))) (r .lines) (r .rounds) (r .«inner_cross»)
+        (passLent (now (placed .exit)) (now (lines .exit)) (now (counts .exit)) (now (rounds .exit)) (now (free .exit))
+        (now (work .exit)) (now (sums .exit))) ⌝ }
 {
     let m = lay_main(
         c,
@@ -144,8 +154,13 @@ fn pass_checked<'a>(
     work: &mut [u32],
     sums: &mut [f64],
 ) -> PassAnswer
-    requires { ⌜ PassChecked c n (now numbers) (now codes) (passLent (now placed) (now lines) (now counts) (now rounds) (now free) (now work) (now sums)) ⌝ }
-    ensures { λ r. ⌜ PassAnswered (summed (passSum c n (now (numbers .entry)) (now (codes .entry)))) c n (now (numbers .entry)) (now (codes .entry)) (passLent (now (placed .entry)) (now (lines .entry)) (now (counts .entry)) (now (rounds .entry)) (now (free .entry)) (now (work .entry)) (now (sums .entry))) r (passLent (now (placed .exit)) (now (lines .exit)) (now (counts .exit)) (now (rounds .exit)) (now (free .exit)) (now (work .exit)) (now (sums .exit))) ⌝ }
+    requires { ⌜ PassChecked c n (now numbers) (now codes) (passLent (now placed) (now lines) (now counts) (now rounds)
+        (now free) (now work) (now sums)) ⌝ }
+    ensures { λ r. ⌜ PassAnswered (summed (passSum c n (now (numbers .entry)) (now (codes .entry)))) c n
+        (now (numbers .entry)) (now (codes .entry)) (passLent (now (placed .entry)) (now (lines .entry))
+        (now (counts .entry)) (now (rounds .entry)) (now (free .entry)) (now (work .entry)) (now (sums .entry))) r
+        (passLent (now (placed .exit)) (now (lines .exit)) (now (counts .exit)) (now (rounds .exit)) (now (free .exit))
+        (now (work .exit)) (now (sums .exit))) ⌝ }
 {
     let mut table = [0.0; 8192];
     pass_main::reading::read_main(n, numbers, codes, &mut table);
@@ -177,10 +192,11 @@ fn pass_checked<'a>(
     }
 }
 
-// The whole pass of any bits. The numbers are fourteen lists of n cells one after another: base, minimum, maximum, padding plus border, grow, shrink,
-// start and end margin (main axis); measured size, minimum, maximum, padding plus border, start and end margin (cross axis). The codes are eight: has a
-// maximum, auto start, auto end (main axis); has a maximum, auto start, auto end, `align-self`, auto size (cross axis). `placed` takes eight lists of n:
-// main size, offset, start and end margin, and the same on the cross axis; `lines` two: the lines' cross sizes and offsets.
+// The whole pass of any bits. The numbers are fourteen lists of n cells one after another: base, minimum, maximum,
+// padding plus border, grow, shrink, start and end margin (main axis); measured size, minimum, maximum, padding plus
+// border, start and end margin (cross axis). The codes are eight: has a maximum, auto start, auto end (main axis); has
+// a maximum, auto start, auto end, `align-self`, auto size (cross axis). `placed` takes eight lists of n: main size,
+// offset, start and end margin, and the same on the cross axis; `lines` two: the lines' cross sizes and offsets.
 pub fn pass<'a>(
     c: Container,
     n: usize,
@@ -194,7 +210,11 @@ pub fn pass<'a>(
     work: &mut [u32],
     sums: &mut [f64],
 ) -> PassAnswer
-    ensures { λ r. ⌜ PassCall c n (now (numbers .entry)) (now (codes .entry)) (passLent (now (placed .entry)) (now (lines .entry)) (now (counts .entry)) (now (rounds .entry)) (now (free .entry)) (now (work .entry)) (now (sums .entry))) r (passLent (now (placed .exit)) (now (lines .exit)) (now (counts .exit)) (now (rounds .exit)) (now (free .exit)) (now (work .exit)) (now (sums .exit))) ⌝ }
+    ensures { λ r. ⌜ PassCall c n (now (numbers .entry)) (now (codes .entry))
+        (passLent (now (placed .entry)) (now (lines .entry)) (now (counts .entry)) (now (rounds .entry))
+        (now (free .entry)) (now (work .entry)) (now (sums .entry))) r
+        (passLent (now (placed .exit)) (now (lines .exit)) (now (counts .exit)) (now (rounds .exit)) (now (free .exit))
+        (now (work .exit)) (now (sums .exit))) ⌝ }
 {
     let v = check_pass(
         c,

@@ -1,5 +1,5 @@
--- The lines of the whole pass: what breaking asks, and what it gives, by the definition of the wrap modes. Only contracts of parts cite it. Assumes
--- nothing.
+-- The lines of the whole pass: what breaking asks, and what it gives, by the definition of the wrap modes. Only
+-- contracts of parts cite it. Assumes nothing.
 use mathlib.Core.List.{List}
 use Prim.Native.Nat.{ℕ}
 use lib.Ieee.{Float}
@@ -20,4 +20,5 @@ pub record Breaks (c : Container) (n : ℕ) (t : List Float) (before : balance.B
   pub room : WrapRoom (breakMode c) n before
 
 abbrev pub LinesBroken : Container → ℕ → List Float → balance.BreakLent → ℕ → balance.BreakLent → Type 0
-LinesBroken c n t = wrapping.Wrapped (breakMode c) (limitSpace c) (cleaned (c .«gap_main»)) (c .«minimum_lines») (outerSizes (itemsIn t 0 n))
+LinesBroken c n t = wrapping.Wrapped (breakMode c) (limitSpace c) (cleaned (c .«gap_main»)) (c .«minimum_lines»)
+    (outerSizes (itemsIn t 0 n))

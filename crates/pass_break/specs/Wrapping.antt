@@ -1,4 +1,5 @@
--- The lines of a container by its wrap mode (document 01, "Breaking"), in the lists that balanced breaking is lent. Definitions only. Assumes nothing.
+-- The lines of a container by its wrap mode (document 01, "Breaking"), in the lists that balanced breaking is lent.
+-- Definitions only. Assumes nothing.
 use mathlib.Core.Path.{_≡_}
 use mathlib.Core.List.{List, [], _∷_}
 use Prim.Native.Nat.{ℕ, zero, suc}
@@ -22,7 +23,8 @@ oneLine (suc n) = suc n ∷ []
 abbrev pub Lines : Mode → AvailableSpace → Float → ℕ → List Float → List ℕ → Type 0
 Lines Single limit gap minimum sizes lines = lines ≡ oneLine (length sizes)
 Lines Greedy limit gap minimum sizes lines = lines ≡ greedy (limitOf limit) (sixtyFourths gap) (units sizes)
-Lines Balanced limit gap minimum sizes lines = rule.Balanced (limitOf limit) (sixtyFourths gap) (units sizes) minimum lines
+Lines Balanced limit gap minimum sizes lines =
+    rule.Balanced (limitOf limit) (sixtyFourths gap) (units sizes) minimum lines
 
 -- "After acceptance those work cells are zero, and all cells past the named ones are unchanged."
 abbrev pub listed : Mode → ℕ → List ℕ → BreakLent → BreakLent
@@ -31,7 +33,8 @@ listed Greedy n lines b = breakLent (countCells n lines (b .counts)) (b .work) (
 listed Balanced n lines b = worked n lines b
 
 -- BREAKING BY WRAP MODE: the answer is the number of the lines, and the lists hold their counts
-pub record Wrapped (mode : Mode) (limit : AvailableSpace) (gap : Float) (minimum : ℕ) (sizes : List Float) (before : BreakLent) (r : ℕ) (after : BreakLent) : Type 0 where
+pub record Wrapped (mode : Mode) (limit : AvailableSpace) (gap : Float) (minimum : ℕ) (sizes : List Float)
+    (before : BreakLent) (r : ℕ) (after : BreakLent) : Type 0 where
   pub lines : List ℕ
   pub lines-are : Lines mode limit gap minimum sizes lines
   pub number : r ≡ length lines

@@ -1,5 +1,5 @@
-// Breaking as the whole pass does it, by the container's wrap mode (document 01, "Breaking"), of the items that the table holds. The parts
-// work on what the pass's checks have accepted: none is an entry point.
+// Breaking as the whole pass does it, by the container's wrap mode (document 01, "Breaking"), of the items that the
+// table holds. The parts work on what the pass's checks have accepted: none is an entry point.
 ghost use mathlib.Core.Path.{_≡_};
 ghost use mathlib.Core.List.{_++_};
 ghost use Prim.Native.Nat.{_≤_};
@@ -26,7 +26,8 @@ use pass_container::Container;
 // The sizes that breaking takes: the hypothetical outer main sizes of the table's first n items. No entry point.
 pub fn outer_sizes(table: &[f32], n: usize, sizes: &mut [f32])
     requires { ⌜ Wide (now table) n × (n ≤ length (now sizes)) ⌝ }
-    ensures { λ _. ⌜ now (sizes .exit) ≡ outerSizes (itemsIn (now (table .entry)) 0 n) ++ drop n (now (sizes .entry)) ⌝ }
+    ensures { λ _. ⌜ now (sizes .exit) ≡ outerSizes (itemsIn (now (table .entry)) 0 n)
+        ++ drop n (now (sizes .entry)) ⌝ }
 {
     let mut i = 0;
     while i < n {
@@ -60,8 +61,11 @@ pub fn break_lines(
     work: &mut [u32],
     sums: &mut [f64],
 ) -> usize
-    requires { ⌜ Breakable limit gap (now sizes) × WrapRoom mode (length (now sizes)) (breakLent (now counts) (now work) (now sums)) ⌝ }
-    ensures { λ r. ⌜ Wrapped mode limit gap minimum (now (sizes .entry)) (breakLent (now (counts .entry)) (now (work .entry)) (now (sums .entry))) r (breakLent (now (counts .exit)) (now (work .exit)) (now (sums .exit))) ⌝ }
+    requires { ⌜ Breakable limit gap (now sizes) × WrapRoom mode (length (now sizes))
+        (breakLent (now counts) (now work) (now sums)) ⌝ }
+    ensures { λ r. ⌜ Wrapped mode limit gap minimum (now (sizes .entry))
+        (breakLent (now (counts .entry)) (now (work .entry)) (now (sums .entry))) r
+        (breakLent (now (counts .exit)) (now (work .exit)) (now (sums .exit))) ⌝ }
 {
     match mode {
         Mode::Single => single_line(sizes.len(), counts),
@@ -70,7 +74,8 @@ pub fn break_lines(
     }
 }
 
-// The lines of a table's items, by the wrap mode: counts by line, and how many lines there are. No entry point: it asks what the checks show.
+// The lines of a table's items, by the wrap mode: counts by line, and how many lines there are. No entry point: it asks
+// what the checks show.
 pub fn break_items(
     c: Container,
     n: usize,
@@ -80,7 +85,8 @@ pub fn break_items(
     sums: &mut [f64],
 ) -> usize
     requires { ⌜ Breaks c n (now table) (breakLent (now counts) (now work) (now sums)) ⌝ }
-    ensures { λ r. ⌜ LinesBroken c n (now (table .entry)) (breakLent (now (counts .entry)) (now (work .entry)) (now (sums .entry))) r (breakLent (now (counts .exit)) (now (work .exit)) (now (sums .exit))) ⌝ }
+    ensures { λ r. ⌜ LinesBroken c n (now (table .entry)) (breakLent (now (counts .entry)) (now (work .entry))
+        (now (sums .entry))) r (breakLent (now (counts .exit)) (now (work .exit)) (now (sums .exit))) ⌝ }
 {
     let mut sizes = [0.0; 1024];
     outer_sizes(table, n, &mut sizes);

@@ -1,4 +1,5 @@
-// Checks 1 to 5 of the whole pass (document 01, "Domain and refusal numbers"): the lengths of its lists, and the numbers that it takes.
+// Checks 1 to 5 of the whole pass (document 01, "Domain and refusal numbers"): the lengths of its lists, and the
+// numbers that it takes.
 ghost use mathlib.Core.Path.{_≡_};
 ghost use Prim.Native.Nat.{_+_, _*_, _≤_};
 ghost use lib.ListN.{length};
@@ -40,7 +41,8 @@ fn has_room_to_break(n: usize, mode: Mode, work: usize, sums: usize) -> bool
     }
 }
 
-// Checks 1 and 2, from the lengths of the lists. More than 1,024 items are refused whatever the room, so their square is never taken.
+// Checks 1 and 2, from the lengths of the lists. More than 1,024 items are refused whatever the room, so their square
+// is never taken.
 fn check_lists(
     n: usize,
     mode: Mode,
@@ -119,7 +121,9 @@ fn mark_container(c: Container) -> Mark
 // The marks of the items' numbers on the cross axis.
 fn mark_across<'a>(n: usize, numbers: &'a [f32], codes: &'a [u32]) -> Mark
     requires { ⌜ ItemLists n (now numbers) (now codes) ⌝ }
-    ensures { λ r. ⌜ r .0 ≡ leastUpTo (λ i. leastOf (acrossNumbersAt (crossItems n (now (numbers .entry)) (now (codes .entry))) (alignSelf n (now (codes .entry))) (autoSize n (now (codes .entry))) i) (i + 1)) n ⌝ }
+    ensures { λ r. ⌜ r .0 ≡ leastUpTo (λ i. leastOf (acrossNumbersAt
+        (crossItems n (now (numbers .entry)) (now (codes .entry))) (alignSelf n (now (codes .entry)))
+        (autoSize n (now (codes .entry))) i) (i + 1)) n ⌝ }
 {
     place_checks::marks::mark_across(
         column(numbers, n, 8),
@@ -160,7 +164,9 @@ pub fn check_pass<'a>(
     work: usize,
     sums: usize,
 ) -> Verdict
-    ensures { λ r. ⌜ r ≡ then (shape n (passRoom n (breakMode c) (length (now (numbers .entry))) (length (now (codes .entry))) placed lines counts rounds free work sums)) (judged (leastMark (passInput c n (now (numbers .entry)) (now (codes .entry))))) ⌝ }
+    ensures { λ r. ⌜ r ≡ then (shape n (passRoom n (breakMode c) (length (now (numbers .entry)))
+        (length (now (codes .entry))) placed lines counts rounds free work sums))
+        (judged (leastMark (passInput c n (now (numbers .entry)) (now (codes .entry))))) ⌝ }
 {
     let v = check_lists(
         n,

@@ -1,4 +1,5 @@
--- The container of the pass, one struct of numbers: what it says of the limit, the direction, how lines break, and the cross axis. Assumes nothing.
+-- The container of the pass, one struct of numbers: what it says of the limit, the direction, how lines break, and the
+-- cross axis. Assumes nothing.
 use mathlib.Core.Bool.{Bool, _||_}
 use lib.Dec.{eqb}
 use Rattle.keywords.specs.declared.AvailableSpace.{AvailableSpace}

@@ -45,8 +45,10 @@ pub fn store_four<'a>(
     k: usize,
     cells: &mut [f32],
 )
-    requires { ⌜ Inside n (k + 3) (now cells) × (length (now a) ≡ n) × (length (now b) ≡ n) × (length (now c) ≡ n) × (length (now d) ≡ n) ⌝ }
-    ensures { λ _. ⌜ FourStored n k (now (a .entry)) (now (b .entry)) (now (c .entry)) (now (d .entry)) (now (cells .entry)) (now (cells .exit)) ⌝ }
+    requires { ⌜ Inside n (k + 3) (now cells) × (length (now a) ≡ n) × (length (now b) ≡ n) × (length (now c) ≡ n)
+        × (length (now d) ≡ n) ⌝ }
+    ensures { λ _. ⌜ FourStored n k (now (a .entry)) (now (b .entry)) (now (c .entry)) (now (d .entry))
+        (now (cells .entry)) (now (cells .exit)) ⌝ }
 {
     store_column(a, n, k, cells);
     store_column(b, n, k + 1, cells);

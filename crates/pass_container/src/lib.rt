@@ -1,7 +1,8 @@
 // The container of the whole pass, one struct by value, and the items' numbers in lists of n cells one after another.
 pub mod columns;
 
-// The container's gaps, sizes, limit and keywords travel as one value, to every stage. The codes are those of the header.
+// The container's gaps, sizes, limit and keywords travel as one value, to every stage. The codes are those of the
+// header.
 #[repr(C)]
 pub struct Container {
     pub inner_main: f32,

@@ -1,5 +1,5 @@
-// The cross axis in the whole pass: the lines along it, and the items across them, written to the lists that the pass is lent. No entry points: the
-// pass checks before it comes here.
+// The cross axis in the whole pass: the lines along it, and the items across them, written to the lists that the pass
+// is lent. No entry points: the pass checks before it comes here.
 ghost use mathlib.Core.Path.{_≡_};
 ghost use Prim.Native.Nat.{_*_, _≤_};
 ghost use lib.ListN.{length};
@@ -38,7 +38,8 @@ fn size_lines<'a>(
     sizes: &mut [f32],
 )
     requires { ⌜ CrossReady n (now numbers) (now codes) (now counts) × (n ≤ length (now sizes)) ⌝ }
-    ensures { λ _. ⌜ now (sizes .exit) ≡ crossSizes (crossAxis c) (now (counts .entry)) (crossItems n (now (numbers .entry)) (now (codes .entry))) (now (sizes .entry)) ⌝ }
+    ensures { λ _. ⌜ now (sizes .exit) ≡ crossSizes (crossAxis c) (now (counts .entry))
+        (crossItems n (now (numbers .entry)) (now (codes .entry))) (now (sizes .entry)) ⌝ }
 {
     cross_sizes(
         cross_axis(c),
@@ -66,8 +67,10 @@ fn align_sized<'a>(
     sizes: &mut [f32],
     offsets: &mut [f32],
 ) -> f32
-    requires { ⌜ CrossReady n (now numbers) (now codes) (now counts) × (n ≤ length (now sizes)) × (n ≤ length (now offsets)) ⌝ }
-    ensures { λ r. ⌜ AlignedLines c n (now (numbers .entry)) (now (codes .entry)) (now (counts .entry)) (now (sizes .entry)) (now (offsets .entry)) r (now (sizes .exit)) (now (offsets .exit)) ⌝ }
+    requires { ⌜ CrossReady n (now numbers) (now codes) (now counts) × (n ≤ length (now sizes))
+        × (n ≤ length (now offsets)) ⌝ }
+    ensures { λ r. ⌜ AlignedLines c n (now (numbers .entry)) (now (codes .entry)) (now (counts .entry))
+        (now (sizes .entry)) (now (offsets .entry)) r (now (sizes .exit)) (now (offsets .exit)) ⌝ }
 {
     let mut asked = [0.0; 1024];
     size_lines(c, n, numbers, codes, counts, &mut asked);
@@ -91,7 +94,8 @@ pub fn lines_along<'a>(
     lines: &mut [f32],
 ) -> f32
     requires { ⌜ CrossReady n (now numbers) (now codes) (now counts) × (2 * n ≤ length (now lines)) ⌝ }
-    ensures { λ r. ⌜ LinesPlaced c n (now (numbers .entry)) (now (codes .entry)) (now (counts .entry)) r (now (lines .entry)) (now (lines .exit)) ⌝ }
+    ensures { λ r. ⌜ LinesPlaced c n (now (numbers .entry)) (now (codes .entry)) (now (counts .entry)) r
+        (now (lines .entry)) (now (lines .exit)) ⌝ }
 {
     let mut sizes = [0.0; 1024];
     let mut offsets = [0.0; 1024];
@@ -122,8 +126,12 @@ fn across_lines<'a>(
     ends: &mut [f32],
     offsets: &mut [f32],
 )
-    requires { ⌜ CrossReady n (now numbers) (now codes) (now counts) × (n ≤ length (now «line_sizes»)) × (n ≤ length (now sizes)) × (n ≤ length (now starts)) × (n ≤ length (now ends)) × (n ≤ length (now offsets)) ⌝ }
-    ensures { λ _. ⌜ PlacedAcross c n (now (numbers .entry)) (now (codes .entry)) (now (counts .entry)) (now («line_sizes» .entry)) (now (sizes .entry)) (now (starts .entry)) (now (ends .entry)) (now (offsets .entry)) (now (sizes .exit)) (now (starts .exit)) (now (ends .exit)) (now (offsets .exit)) ⌝ }
+    requires { ⌜ CrossReady n (now numbers) (now codes) (now counts) × (n ≤ length (now «line_sizes»))
+        × (n ≤ length (now sizes)) × (n ≤ length (now starts)) × (n ≤ length (now ends))
+        × (n ≤ length (now offsets)) ⌝ }
+    ensures { λ _. ⌜ PlacedAcross c n (now (numbers .entry)) (now (codes .entry)) (now (counts .entry))
+        (now («line_sizes» .entry)) (now (sizes .entry)) (now (starts .entry)) (now (ends .entry))
+        (now (offsets .entry)) (now (sizes .exit)) (now (starts .exit)) (now (ends .exit)) (now (offsets .exit)) ⌝ }
 {
     across_by_line(
         is_reversed(wrap_of(c.wrap)),
@@ -157,8 +165,10 @@ pub fn items_across<'a>(
     line_sizes: &'a [f32],
     placed: &mut [f32],
 )
-    requires { ⌜ CrossReady n (now numbers) (now codes) (now counts) × (n ≤ length (now «line_sizes»)) × (8 * n ≤ length (now placed)) ⌝ }
-    ensures { λ _. ⌜ ItemsAcross c n (now (numbers .entry)) (now (codes .entry)) (now (counts .entry)) (now («line_sizes» .entry)) (now (placed .entry)) (now (placed .exit)) ⌝ }
+    requires { ⌜ CrossReady n (now numbers) (now codes) (now counts) × (n ≤ length (now «line_sizes»))
+        × (8 * n ≤ length (now placed)) ⌝ }
+    ensures { λ _. ⌜ ItemsAcross c n (now (numbers .entry)) (now (codes .entry)) (now (counts .entry))
+        (now («line_sizes» .entry)) (now (placed .entry)) (now (placed .exit)) ⌝ }
 {
     let mut sizes = [0.0; 1024];
     let mut starts = [0.0; 1024];

@@ -1,5 +1,6 @@
-// The items as a host has them: a slice of structs, unpacked into the plain lists that the pass reads, one list of numbers and one of codes,
-// by columns. Whatever touches the slice itself is thin: the work on one item is done on an item by value.
+// The items as a host has them: a slice of structs, unpacked into the plain lists that the pass reads, one list of
+// numbers and one of codes, by columns. Whatever touches the slice itself is thin: the work on one item is done on an
+// item by value.
 ghost use mathlib.Core.Path.{_≡_};
 ghost use mathlib.Core.List.{_++_};
 ghost use Prim.Native.Nat.{_+_, _*_, _<_, _≤_, min};
@@ -7,8 +8,8 @@ ghost use lib.ListN.{length, take, drop};
 ghost use Rattle.pass_items.specs.Items.{numbersOf, codesOf};
 ghost use Rattle.pass_items.specs.Parts.{numbersIn, codesIn, stored};
 
-// An item: fourteen numbers and eight codes, each read as the pass reads its column. A flag is a code: 0 no, 1 yes; the pass refuses
-// any other.
+// An item: fourteen numbers and eight codes, each read as the pass reads its column. A flag is a code: 0 no, 1 yes; the
+// pass refuses any other.
 #[repr(C)]
 pub struct Item {
     pub main_base: f32,
@@ -106,7 +107,8 @@ fn put_codes(codes: &mut [u32], m: usize, i: usize, x: Item)
 // Item i of m into both lists; the number of the next one. No entry point.
 pub fn put(nums: &mut [f32], codes: &mut [u32], m: usize, i: usize, x: Item) -> usize
     requires { ⌜ (i < m) × ((14 * m ≤ length (now nums)) × (8 * m ≤ length (now codes))) ⌝ }
-    ensures { λ r. ⌜ (r ≡ i + 1) × ((now (nums .exit) ≡ stored m (now (nums .entry)) i (numbersIn x)) × (now (codes .exit) ≡ stored m (now (codes .entry)) i (codesIn x))) ⌝ }
+    ensures { λ r. ⌜ (r ≡ i + 1) × ((now (nums .exit) ≡ stored m (now (nums .entry)) i (numbersIn x))
+        × (now (codes .exit) ≡ stored m (now (codes .entry)) i (codesIn x))) ⌝ }
 {
     put_numbers(&mut *nums, m, i, x);
     put_codes(&mut *codes, m, i, x);

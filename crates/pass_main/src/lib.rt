@@ -1,4 +1,5 @@
-// The main axis of the whole pass: each line flexed, and its items spaced (document 01, "Flexible lengths" and "Main axis").
+// The main axis of the whole pass: each line flexed, and its items spaced (document 01, "Flexible lengths" and "Main
+// axis").
 ghost use mathlib.Core.Path.{_≡_};
 ghost use mathlib.Core.Bool.{_||_};
 ghost use Prim.Native.Nat.{_*_, _≤_};
@@ -40,8 +41,11 @@ fn run_main<'a>(
     rounds: &mut [u32],
 ) -> u32
     requires { ⌜ MainStageReady c n (now table) (now numbers) (now codes) (now counts) (now free) (now rounds) ⌝ }
-    requires { ⌜ (length (now targets) ≡ n) × (length (now offsets) ≡ n) × (length (now starts) ≡ n) × (length (now ends) ≡ n) ⌝ }
-    ensures { λ r. ⌜ Run c n (now (numbers .entry)) (now (codes .entry)) (now (counts .entry)) (now (free .entry)) (now (rounds .entry)) r (now (targets .exit)) (now (offsets .exit)) (now (starts .exit)) (now (ends .exit)) (now (free .exit)) (now (rounds .exit)) ⌝ }
+    requires { ⌜ (length (now targets) ≡ n) × (length (now offsets) ≡ n) × (length (now starts) ≡ n)
+        × (length (now ends) ≡ n) ⌝ }
+    ensures { λ r. ⌜ Run c n (now (numbers .entry)) (now (codes .entry)) (now (counts .entry)) (now (free .entry))
+        (now (rounds .entry)) r (now (targets .exit)) (now (offsets .exit)) (now (starts .exit)) (now (ends .exit))
+        (now (free .exit)) (now (rounds .exit)) ⌝ }
 {
     let inner = grid::clean(c.inner_main);
     let gap = grid::clean(c.gap_main);
@@ -80,9 +84,13 @@ fn place_by_way<'a>(
     free: &mut [i32],
     rounds: &mut [u32],
 ) -> u32
-    requires { ⌜ MainStageReady c n (now table) (now numbers) (now codes) (now counts) (now free) (now rounds) × (4 * n ≤ length (now placed)) ⌝ }
-    requires { ⌜ (n ≤ length (now targets)) × (n ≤ length (now offsets)) × (n ≤ length (now starts)) × (n ≤ length (now ends)) ⌝ }
-    ensures { λ r. ⌜ MainStage c n (now (numbers .entry)) (now (codes .entry)) (now (counts .entry)) (now (placed .entry)) (now (free .entry)) (now (rounds .entry)) r (now (placed .exit)) (now (free .exit)) (now (rounds .exit)) ⌝ }
+    requires { ⌜ MainStageReady c n (now table) (now numbers) (now codes) (now counts) (now free) (now rounds)
+        × (4 * n ≤ length (now placed)) ⌝ }
+    requires { ⌜ (n ≤ length (now targets)) × (n ≤ length (now offsets)) × (n ≤ length (now starts))
+        × (n ≤ length (now ends)) ⌝ }
+    ensures { λ r. ⌜ MainStage c n (now (numbers .entry)) (now (codes .entry)) (now (counts .entry))
+        (now (placed .entry)) (now (free .entry)) (now (rounds .entry)) r (now (placed .exit)) (now (free .exit))
+        (now (rounds .exit)) ⌝ }
 {
     let sum = run_main(
         c,
@@ -122,8 +130,11 @@ pub fn place_main_axis<'a>(
     free: &mut [i32],
     rounds: &mut [u32],
 ) -> u32
-    requires { ⌜ MainStageReady c n (now table) (now numbers) (now codes) (now counts) (now free) (now rounds) × (4 * n ≤ length (now placed)) ⌝ }
-    ensures { λ r. ⌜ MainStage c n (now (numbers .entry)) (now (codes .entry)) (now (counts .entry)) (now (placed .entry)) (now (free .entry)) (now (rounds .entry)) r (now (placed .exit)) (now (free .exit)) (now (rounds .exit)) ⌝ }
+    requires { ⌜ MainStageReady c n (now table) (now numbers) (now codes) (now counts) (now free) (now rounds)
+        × (4 * n ≤ length (now placed)) ⌝ }
+    ensures { λ r. ⌜ MainStage c n (now (numbers .entry)) (now (codes .entry)) (now (counts .entry))
+        (now (placed .entry)) (now (free .entry)) (now (rounds .entry)) r (now (placed .exit)) (now (free .exit))
+        (now (rounds .exit)) ⌝ }
 {
     let mut targets = [0.0; 1024];
     let mut offsets = [0.0; 1024];

@@ -7,7 +7,8 @@ use Rattle.place_main.specs.MainAxis.{LineLists, count}
 use Rattle.place_main.specs.Parts.{MainOneLength}
 use Rattle.lists.specs.ByLine.{Division}
 
--- what the checks and the breaking before it have shown: the lines have the items of the lists, and there is room for them
+-- what the checks and the breaking before it have shown: the lines have the items of the lists, and there is room for
+-- them
 pub record MainReady (counts : List ℕ) (l : LineLists) (offsets starts ends : List Float) : Type 0 where
   pub even : MainOneLength l
   pub division : Division counts (count l)

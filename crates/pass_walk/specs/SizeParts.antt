@@ -7,7 +7,8 @@ use Rattle.place_size.specs.CrossSize.{Items, count}
 use Rattle.place_size.specs.Parts.{CrossOneLength}
 use Rattle.lists.specs.ByLine.{Division}
 
--- what the checks and the breaking before it have shown: the lines have the items of the lists, and there is room for the lines
+-- what the checks and the breaking before it have shown: the lines have the items of the lists, and there is room for
+-- the lines
 pub record SizesReady (counts : List ℕ) (ls : Items) (sizes : List Float) : Type 0 where
   pub even : CrossOneLength ls
   pub division : Division counts (count ls)

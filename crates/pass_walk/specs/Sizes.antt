@@ -10,7 +10,9 @@ use Rattle.lists.specs.ByLine.{part}
 
 -- the items of line j
 abbrev pub crossLine : List ℕ → ℕ → Items → Items
-crossLine counts j ls = items (part counts j (ls .measured)) (part counts j (ls .minimum)) (part counts j (ls .maximum)) (part counts j (ls .capped)) (part counts j (ls .edges)) (part counts j (ls .start)) (part counts j (ls .end)) (part counts j (ls .auto-start)) (part counts j (ls .auto-end))
+crossLine counts j ls = items (part counts j (ls .measured)) (part counts j (ls .minimum)) (part counts j (ls .maximum))
+    (part counts j (ls .capped)) (part counts j (ls .edges)) (part counts j (ls .start)) (part counts j (ls .end))
+    (part counts j (ls .auto-start)) (part counts j (ls .auto-end))
 
 -- a list by line: the cells past the last line are as they were
 abbrev pub crossSizes : Cross → List ℕ → Items → List Float → List Float

@@ -1,5 +1,5 @@
-// Walks over the lines: the main axis, and the lines' cross sizes. Each line is lent its own parts of the lists; specs/Past.antt says what
-// a walk leaves of a lent list. No entry points: the pass checks before it walks.
+// Walks over the lines: the main axis, and the lines' cross sizes. Each line is lent its own parts of the lists;
+// specs/Past.antt says what a walk leaves of a lent list. No entry points: the pass checks before it walks.
 ghost use Rattle.place_main.specs.MainAxis.{lineLists};
 ghost use Rattle.pass_walk.specs.Main.{MainLines};
 ghost use Rattle.pass_walk.specs.MainParts.{MainReady};
@@ -28,8 +28,12 @@ pub fn main_by_line<'a>(
     used_start: &mut [f32],
     used_end: &mut [f32],
 )
-    requires { ⌜ MainReady (now counts) (lineLists (now targets) (now start) (now end) (now «auto_start») (now «auto_end»)) (now offsets) (now «used_start») (now «used_end») ⌝ }
-    ensures { λ _. ⌜ MainLines inner gap justify reversed (now (counts .entry)) (lineLists (now (targets .entry)) (now (start .entry)) (now (end .entry)) (now («auto_start» .entry)) (now («auto_end» .entry))) (now (offsets .entry)) (now («used_start» .entry)) (now («used_end» .entry)) (now (offsets .exit)) (now («used_start» .exit)) (now («used_end» .exit)) ⌝ }
+    requires { ⌜ MainReady (now counts) (lineLists (now targets) (now start) (now end) (now «auto_start»)
+        (now «auto_end»)) (now offsets) (now «used_start») (now «used_end») ⌝ }
+    ensures { λ _. ⌜ MainLines inner gap justify reversed (now (counts .entry))
+        (lineLists (now (targets .entry)) (now (start .entry)) (now (end .entry)) (now («auto_start» .entry))
+        (now («auto_end» .entry))) (now (offsets .entry)) (now («used_start» .entry)) (now («used_end» .entry))
+        (now (offsets .exit)) (now («used_start» .exit)) (now («used_end» .exit)) ⌝ }
 {
     let mut from = 0;
     let mut j = 0;
@@ -70,8 +74,12 @@ pub fn cross_sizes<'a>(
     auto_end: &'a [u32],
     sizes: &mut [f32],
 )
-    requires { ⌜ SizesReady (now counts) (items (now measured) (now minimum) (now maximum) (now capped) (now edges) (now start) (now end) (now «auto_start») (now «auto_end»)) (now sizes) ⌝ }
-    ensures { λ _. ⌜ now (sizes .exit) ≡ crossSizes c (now (counts .entry)) (items (now (measured .entry)) (now (minimum .entry)) (now (maximum .entry)) (now (capped .entry)) (now (edges .entry)) (now (start .entry)) (now (end .entry)) (now («auto_start» .entry)) (now («auto_end» .entry))) (now (sizes .entry)) ⌝ }
+    requires { ⌜ SizesReady (now counts) (items (now measured) (now minimum) (now maximum) (now capped) (now edges)
+        (now start) (now end) (now «auto_start») (now «auto_end»)) (now sizes) ⌝ }
+    ensures { λ _. ⌜ now (sizes .exit) ≡ crossSizes c (now (counts .entry))
+        (items (now (measured .entry)) (now (minimum .entry)) (now (maximum .entry)) (now (capped .entry))
+        (now (edges .entry)) (now (start .entry)) (now (end .entry)) (now («auto_start» .entry))
+        (now («auto_end» .entry))) (now (sizes .entry)) ⌝ }
 {
     let mut from = 0;
     let mut j = 0;

@@ -11,8 +11,11 @@ use Rattle.lists.specs.Cells.{Past}
 use Rattle.pass_walk.specs.Sizes.{crossLine}
 
 -- the lent cells after the walk, beside those before it
-pub record AcrossLines (reversed : Bool) (counts : List ℕ) (lines : List Float) (ls : Items) (alignment auto-size : List ℕ) (sizes₀ starts₀ ends₀ offsets₀ sizes starts ends offsets : List Float) : Type 0 where
-  pub across : (j : ℕ) → j < length counts → Across (getD lines j nan) reversed (crossLine counts j ls) (part counts j alignment) (part counts j auto-size) [] [] [] [] (part counts j sizes) (part counts j starts) (part counts j ends) (part counts j offsets)
+pub record AcrossLines (reversed : Bool) (counts : List ℕ) (lines : List Float) (ls : Items)
+    (alignment auto-size : List ℕ) (sizes₀ starts₀ ends₀ offsets₀ sizes starts ends offsets : List Float) : Type 0 where
+  pub across : (j : ℕ) → j < length counts → Across (getD lines j nan) reversed (crossLine counts j ls)
+      (part counts j alignment) (part counts j auto-size) [] [] [] [] (part counts j sizes) (part counts j starts)
+      (part counts j ends) (part counts j offsets)
   pub sizes-past : Past (count ls) sizes₀ sizes
   pub starts-past : Past (count ls) starts₀ starts
   pub ends-past : Past (count ls) ends₀ ends

@@ -1,10 +1,12 @@
-// The items across their lines, line by line: each line is lent its own parts of the lists. No entry point: the pass checks before it walks.
+// The items across their lines, line by line: each line is lent its own parts of the lists. No entry point: the pass
+// checks before it walks.
 ghost use Rattle.place_size.specs.CrossSize.{items};
 ghost use Rattle.pass_walk_across.specs.Cross.{AcrossLines};
 ghost use Rattle.pass_walk_across.specs.Parts.{AcrossReady};
 use place_cross::cross_axis::place_items;
 
-// CSS-FLEX 9.6 of every line, each in its own size: no entry point, since the lines have the items of the lists, and there is room.
+// CSS-FLEX 9.6 of every line, each in its own size: no entry point, since the lines have the items of the lists, and
+// there is room.
 pub fn across_by_line<'a>(
     reversed: bool,
     counts: &'a [u32],
@@ -25,8 +27,16 @@ pub fn across_by_line<'a>(
     used_end: &mut [f32],
     offsets: &mut [f32],
 )
-    requires { ⌜ AcrossReady (now counts) (now «line_sizes») (items (now measured) (now minimum) (now maximum) (now capped) (now edges) (now start) (now end) (now «auto_start») (now «auto_end»)) (now alignment) (now «auto_size») (now sizes) (now «used_start») (now «used_end») (now offsets) ⌝ }
-    ensures { λ _. ⌜ AcrossLines reversed (now (counts .entry)) (now («line_sizes» .entry)) (items (now (measured .entry)) (now (minimum .entry)) (now (maximum .entry)) (now (capped .entry)) (now (edges .entry)) (now (start .entry)) (now (end .entry)) (now («auto_start» .entry)) (now («auto_end» .entry))) (now (alignment .entry)) (now («auto_size» .entry)) (now (sizes .entry)) (now («used_start» .entry)) (now («used_end» .entry)) (now (offsets .entry)) (now (sizes .exit)) (now («used_start» .exit)) (now («used_end» .exit)) (now (offsets .exit)) ⌝ }
+    requires { ⌜ AcrossReady (now counts) (now «line_sizes»)
+        (items (now measured) (now minimum) (now maximum) (now capped) (now edges) (now start) (now end)
+        (now «auto_start») (now «auto_end»)) (now alignment) (now «auto_size») (now sizes) (now «used_start»)
+        (now «used_end») (now offsets) ⌝ }
+    ensures { λ _. ⌜ AcrossLines reversed (now (counts .entry)) (now («line_sizes» .entry))
+        (items (now (measured .entry)) (now (minimum .entry)) (now (maximum .entry)) (now (capped .entry))
+        (now (edges .entry)) (now (start .entry)) (now (end .entry)) (now («auto_start» .entry))
+        (now («auto_end» .entry))) (now (alignment .entry)) (now («auto_size» .entry)) (now (sizes .entry))
+        (now («used_start» .entry)) (now («used_end» .entry)) (now (offsets .entry)) (now (sizes .exit))
+        (now («used_start» .exit)) (now («used_end» .exit)) (now (offsets .exit)) ⌝ }
 {
     let mut from = 0;
     let mut j = 0;

@@ -31,7 +31,9 @@ lengths ls alignment auto-size = itemLengths ls ++ (length alignment ∷ length 
 
 -- checks 1 to 5; "calls without main sizes .. never give 6"
 unfoldable pub acrossVerdict : Float → ℕ → Items → List ℕ → List ℕ → List ℕ → Verdict
-acrossVerdict line reversed ls alignment auto-size rooms = then (shapeOf (lengths ls alignment auto-size) rooms (count ls)) (checked (acrossInput line reversed ls alignment auto-size) Passed)
+acrossVerdict line reversed ls alignment auto-size rooms = then
+    (shapeOf (lengths ls alignment auto-size) rooms (count ls))
+    (checked (acrossInput line reversed ls alignment auto-size) Passed)
 
 -- the call's answer, and its lent lists as it returns: used sizes, used start margins, used end margins, offsets
 pub record AcrossResult : Type 0 where
@@ -45,12 +47,18 @@ abbrev pub result : Answer → List Float → List Float → List Float → List
 result r z s e o = record { answer = r; sizes = z; starts = s; ends = e; offsets = o }
 
 -- a refusal changes no cell; the call works out no lines and no rounds
-abbrev pub acrossInto : Verdict → Float → ℕ → Items → List ℕ → List ℕ → List Float → List Float → List Float → List Float → AcrossResult
+abbrev pub acrossInto : Verdict → Float → ℕ → Items → List ℕ → List ℕ → List Float → List Float → List Float
+    → List Float → AcrossResult
 acrossInto (verdict.Refused why) line reversed ls alignment auto-size z s e o = result (answer.Refused why) z s e o
 acrossInto Passed line reversed ls alignment auto-size z s e o =
     let back = not (eqb reversed 0) in
-    result (Done 0 0) (usedSizes line back ls alignment auto-size z) (usedStarts line back ls alignment auto-size s) (usedEnds line back ls alignment auto-size e) (itemOffsets line back ls alignment auto-size o)
+    result (Done 0 0) (usedSizes line back ls alignment auto-size z) (usedStarts line back ls alignment auto-size s)
+    (usedEnds line back ls alignment auto-size e) (itemOffsets line back ls alignment auto-size o)
 
--- THE CALL ("Cross axis"): it refuses by checks 1 to 5 and changes nothing, or it leaves the items' used sizes, used margins and offsets
-abbrev pub acrossCall : Float → ℕ → Items → List ℕ → List ℕ → List Float → List Float → List Float → List Float → AcrossResult
-acrossCall line reversed ls alignment auto-size z s e o = acrossInto (acrossVerdict line reversed ls alignment auto-size (length z ∷ length s ∷ length e ∷ length o ∷ [])) line reversed ls alignment auto-size z s e o
+-- THE CALL ("Cross axis"): it refuses by checks 1 to 5 and changes nothing, or it leaves the items' used sizes, used
+-- margins and offsets
+abbrev pub acrossCall : Float → ℕ → Items → List ℕ → List ℕ → List Float → List Float → List Float → List Float
+    → AcrossResult
+acrossCall line reversed ls alignment auto-size z s e o = acrossInto
+    (acrossVerdict line reversed ls alignment auto-size (length z ∷ length s ∷ length e ∷ length o ∷ [])) line reversed
+    ls alignment auto-size z s e o

@@ -39,7 +39,8 @@ fn check_across_shape(
     used_end: usize,
     offsets: usize,
 ) -> Verdict
-    ensures { λ r. ⌜ r ≡ shapeOf (measured ∷ minimum ∷ maximum ∷ capped ∷ edges ∷ start ∷ end ∷ «auto_start» ∷ «auto_end» ∷ alignment ∷ «auto_size» ∷ []) (sizes ∷ «used_start» ∷ «used_end» ∷ offsets ∷ []) measured ⌝ }
+    ensures { λ r. ⌜ r ≡ shapeOf (measured ∷ minimum ∷ maximum ∷ capped ∷ edges ∷ start ∷ end ∷ «auto_start» ∷
+        «auto_end» ∷ alignment ∷ «auto_size» ∷ []) (sizes ∷ «used_start» ∷ «used_end» ∷ offsets ∷ []) measured ⌝ }
 {
     let longest = lengths::longest_list(
         measured,
@@ -88,8 +89,12 @@ fn check_across_numbers<'a>(
     alignment: &'a [u32],
     auto_size: &'a [u32],
 ) -> Verdict
-    requires { ⌜ SameLengths (items (now measured) (now minimum) (now maximum) (now capped) (now edges) (now start) (now end) (now «auto_start») (now «auto_end»)) (now alignment) (now «auto_size») ⌝ }
-    ensures { λ r. ⌜ r ≡ checked (acrossInput line reversed (items (now (measured .entry)) (now (minimum .entry)) (now (maximum .entry)) (now (capped .entry)) (now (edges .entry)) (now (start .entry)) (now (end .entry)) (now («auto_start» .entry)) (now («auto_end» .entry))) (now (alignment .entry)) (now («auto_size» .entry))) Passed ⌝ }
+    requires { ⌜ SameLengths (items (now measured) (now minimum) (now maximum) (now capped) (now edges) (now start)
+        (now end) (now «auto_start») (now «auto_end»)) (now alignment) (now «auto_size») ⌝ }
+    ensures { λ r. ⌜ r ≡ checked (acrossInput line reversed (items (now (measured .entry)) (now (minimum .entry))
+        (now (maximum .entry)) (now (capped .entry)) (now (edges .entry)) (now (start .entry)) (now (end .entry))
+        (now («auto_start» .entry)) (now («auto_end» .entry))) (now (alignment .entry)) (now («auto_size» .entry)))
+        Passed ⌝ }
 {
     let container = least(mark_float(Kind::Worked, line, 0), mark_code(1, reversed, 0));
     let items = marks::mark_across(
@@ -128,7 +133,11 @@ pub fn place_across<'a>(
     used_end: &mut [f32],
     offsets: &mut [f32],
 ) -> Answer
-    ensures { λ r. ⌜ result r (now (sizes .exit)) (now («used_start» .exit)) (now («used_end» .exit)) (now (offsets .exit)) ≡ acrossCall line reversed (items (now (measured .entry)) (now (minimum .entry)) (now (maximum .entry)) (now (capped .entry)) (now (edges .entry)) (now (start .entry)) (now (end .entry)) (now («auto_start» .entry)) (now («auto_end» .entry))) (now (alignment .entry)) (now («auto_size» .entry)) (now (sizes .entry)) (now («used_start» .entry)) (now («used_end» .entry)) (now (offsets .entry)) ⌝ }
+    ensures { λ r. ⌜ result r (now (sizes .exit)) (now («used_start» .exit)) (now («used_end» .exit))
+        (now (offsets .exit)) ≡ acrossCall line reversed (items (now (measured .entry)) (now (minimum .entry))
+        (now (maximum .entry)) (now (capped .entry)) (now (edges .entry)) (now (start .entry)) (now (end .entry))
+        (now («auto_start» .entry)) (now («auto_end» .entry))) (now (alignment .entry)) (now («auto_size» .entry))
+        (now (sizes .entry)) (now («used_start» .entry)) (now («used_end» .entry)) (now (offsets .entry)) ⌝ }
 {
     let shape = check_across_shape(
         measured.len(),

@@ -1,5 +1,5 @@
--- Document 01, "Main axis": the fallback of the alignment keywords, and the offsets that they give, on either axis. Every operation is one of
--- f32, rounded once. Assumes nothing.
+-- Document 01, "Main axis": the fallback of the alignment keywords, and the offsets that they give, on either axis.
+-- Every operation is one of f32, rounded once. Assumes nothing.
 use mathlib.Core.Bool.{Bool, cond, _||_}
 use Prim.Native.Nat.{ℕ, _+_, _-_}
 use lib.Dec.{leb}
@@ -56,8 +56,8 @@ firstOffset free n reversed (resolved.Spread SpaceBetween) = nought
 firstOffset free n reversed (resolved.Spread SpaceAround) = free ⊘ counted n ⊘ two
 firstOffset free n reversed (resolved.Spread SpaceEvenly) = free ⊘ counted (n + 1)
 
--- the later ones: "gap, plus free/(n−1), free/n, free/(n+1) for between, around, evenly where free is positive"; where it is not, the fallback has
--- left no distribution
+-- the later ones: "gap, plus free/(n−1), free/n, free/(n+1) for between, around, evenly where free is positive"; where
+-- it is not, the fallback has left no distribution
 unfoldable pub laterOffset : Float → ℕ → Float → Resolved → Float
 laterOffset free n gap (At p) = gap
 laterOffset free n gap (resolved.Spread Stretch) = gap
@@ -65,8 +65,8 @@ laterOffset free n gap (resolved.Spread SpaceBetween) = gap ⊕ free ⊘ counted
 laterOffset free n gap (resolved.Spread SpaceAround) = gap ⊕ free ⊘ counted n
 laterOffset free n gap (resolved.Spread SpaceEvenly) = gap ⊕ free ⊘ counted (n + 1)
 
--- "Else the item is placed at 0, free or free/2 by its alignment, stretch as flex-start; reversed wrapping exchanges flex-start and flex-end;
--- safe with negative free is start."
+-- "Else the item is placed at 0, free or free/2 by its alignment, stretch as flex-start; reversed wrapping exchanges
+-- flex-start and flex-end; safe with negative free is start."
 unfoldable pub selfOffset : Float → Bool → SelfAlignment → Float
 selfOffset free reversed (self.Unsafe p) = positioned free reversed p
 selfOffset free reversed (self.Safe p) = positioned free reversed (cond (lt free nought) Start p)

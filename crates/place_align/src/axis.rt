@@ -1,5 +1,5 @@
-// What both axes share: margins that may be auto, and offsets in the order of the walk.
-// No entry points: the lists are of one length, there is room, and there are few items, which checks 1 and 2 have shown.
+// What both axes share: margins that may be auto, and offsets in the order of the walk. No entry points: the lists are
+// of one length, there is room, and there are few items, which checks 1 and 2 have shown.
 ghost use mathlib.Core.Path.{_≡_};
 ghost use Prim.Native.Nat.{_≤_, _<_};
 ghost use lib.ListN.{length};
@@ -19,8 +19,10 @@ pub fn margin_or(share: f32, auto: u32, x: f32) -> f32
 
 // The used margins of one side. No entry point.
 pub fn use_margins(share: f32, auto: &[u32], margins: &[f32], used: &mut [f32])
-    requires { ⌜ (length (now auto) ≡ length (now margins)) × (length (now margins) ≤ length (now used)) × (length (now margins) ≤ 1024) ⌝ }
-    ensures { λ _. ⌜ now (used .exit) ≡ overwritten (length (now (margins .entry))) (marginAt share (now (auto .entry)) (now (margins .entry))) (now (used .entry)) ⌝ }
+    requires { ⌜ (length (now auto) ≡ length (now margins)) × (length (now margins) ≤ length (now used))
+        × (length (now margins) ≤ 1024) ⌝ }
+    ensures { λ _. ⌜ now (used .exit) ≡ overwritten (length (now (margins .entry)))
+        (marginAt share (now (auto .entry)) (now (margins .entry))) (now (used .entry)) ⌝ }
 {
     let mut i = 0;
     while i < margins.len() {

@@ -1,8 +1,10 @@
-// Alignment on either axis (document 01, "Main axis"; CSS-ALIGN 4 and 5): the fallback, and the step before the
-// first item and before each later one. Parts of the placing calls, and no entry points: a few ask that a count is small, which check 1 shows.
+// Alignment on either axis (document 01, "Main axis"; CSS-ALIGN 4 and 5): the fallback, and the step before the first
+// item and before each later one. Parts of the placing calls, and no entry points: a few ask that a count is small,
+// which check 1 shows.
 ghost use mathlib.Core.Path.{_≡_};
 ghost use Prim.Native.Nat.{_≤_, _<_};
-ghost use Rattle.place_align.specs.Align.{fallbackOf, fallback, madeSafe, positioned, firstOffset, laterOffset, selfOffset};
+ghost use Rattle.place_align.specs.Align.{fallbackOf, fallback, madeSafe, positioned, firstOffset, laterOffset};
+ghost use Rattle.place_align.specs.Align.{selfOffset};
 use keywords::ContentAlignment;
 use keywords::Distribution;
 use keywords::Position;

@@ -1,4 +1,5 @@
--- The cross axis in numbers: how the container's are read, and what a call checks of them and of a line's items. Assumes nothing.
+-- The cross axis in numbers: how the container's are read, and what a call checks of them and of a line's items.
+-- Assumes nothing.
 use mathlib.Core.List.{List, [], _∷_, _++_}
 use Prim.Native.Nat.{ℕ}
 use lib.Dec.{eqb}
@@ -17,7 +18,13 @@ use Rattle.place_size.specs.CrossSize.{Items}
 -- ---- the container
 
 unfoldable pub crossOf : CrossNumbers → Cross
-crossOf c = record { inner = boundOf (c .«has_inner») (c .inner); minimum = boundOf (c .«has_minimum») (c .minimum); maximum = boundOf (c .«has_maximum») (c .maximum); gap = c .gap; wrap = wrapOf (c .wrap) }
+crossOf c = record {
+  inner = boundOf (c .«has_inner») (c .inner);
+  minimum = boundOf (c .«has_minimum») (c .minimum);
+  maximum = boundOf (c .«has_maximum») (c .maximum);
+  gap = c .gap;
+  wrap = wrapOf (c .wrap);
+}
 
 -- the code, and the number where it is given
 abbrev pub codedBound : ℕ → Float → List Number
@@ -25,7 +32,8 @@ codedBound given x = code 1 given ∷ optional (eqb given 1) (float Size x)
 
 -- the inner size, its bounds, and the rest
 abbrev pub boundsNumbers : CrossNumbers → List Number → List Number
-boundsNumbers c rest = codedBound (c .«has_inner») (c .inner) ++ (codedBound (c .«has_minimum») (c .minimum) ++ (codedBound (c .«has_maximum») (c .maximum) ++ rest))
+boundsNumbers c rest = codedBound (c .«has_inner») (c .inner)
+    ++ (codedBound (c .«has_minimum») (c .minimum) ++ (codedBound (c .«has_maximum») (c .maximum) ++ rest))
 
 -- what lines along the cross axis turn on
 abbrev pub crossNumbers : CrossNumbers → List Number
@@ -37,9 +45,12 @@ sizingNumbers c = boundsNumbers c (code 4 (c .wrap) ∷ [])
 
 -- ---- the items of a line
 
--- item i: measured size, minimum, padding plus border, the maximum where there is one, and the margins that are not auto
+-- item i: measured size, minimum, padding plus border, the maximum where there is one, and the margins that are not
+-- auto
 abbrev pub crossNumbersAt : Items → ℕ → List Number
-crossNumbersAt ls i = floatAt Size (ls .measured) i ++ (floatAt Size (ls .minimum) i ++ (floatAt Size (ls .edges) i ++ (besideAt Size 1 (ls .maximum) (ls .capped) i ++ (besideAt Margin 0 (ls .start) (ls .auto-start) i ++ besideAt Margin 0 (ls .end) (ls .auto-end) i))))
+crossNumbersAt ls i = floatAt Size (ls .measured) i ++ (floatAt Size (ls .minimum) i
+    ++ (floatAt Size (ls .edges) i ++ (besideAt Size 1 (ls .maximum) (ls .capped) i
+    ++ (besideAt Margin 0 (ls .start) (ls .auto-start) i ++ besideAt Margin 0 (ls .end) (ls .auto-end) i))))
 
 -- and the codes of `align-self`, and of an auto cross size
 abbrev pub acrossNumbersAt : Items → List ℕ → List ℕ → ℕ → List Number
@@ -48,4 +59,5 @@ acrossNumbersAt ls alignment auto-size i = crossNumbersAt ls i ++ (codeAt 10 ali
 -- the lengths of a line's lists
 abbrev pub itemLengths : Items → List ℕ
 itemLengths ls =
-    length (ls .measured) ∷ length (ls .minimum) ∷ length (ls .maximum) ∷ length (ls .capped) ∷ length (ls .edges) ∷ length (ls .start) ∷ length (ls .end) ∷ length (ls .auto-start) ∷ length (ls .auto-end) ∷ []
+    length (ls .measured) ∷ length (ls .minimum) ∷ length (ls .maximum) ∷ length (ls .capped) ∷ length (ls .edges) ∷
+    length (ls .start) ∷ length (ls .end) ∷ length (ls .auto-start) ∷ length (ls .auto-end) ∷ []

@@ -26,8 +26,12 @@ pub fn mark_cross_items<'a>(
     auto_start: &'a [u32],
     auto_end: &'a [u32],
 ) -> Mark
-    requires { ⌜ CrossOneLength (items (now measured) (now minimum) (now maximum) (now capped) (now edges) (now start) (now end) (now «auto_start») (now «auto_end»)) ⌝ }
-    ensures { λ r. ⌜ r .0 ≡ leastUpTo (λ i. leastOf (crossNumbersAt (items (now (measured .entry)) (now (minimum .entry)) (now (maximum .entry)) (now (capped .entry)) (now (edges .entry)) (now (start .entry)) (now (end .entry)) (now («auto_start» .entry)) (now («auto_end» .entry))) i) (i + 1)) (length (now (measured .entry))) ⌝ }
+    requires { ⌜ CrossOneLength (items (now measured) (now minimum) (now maximum) (now capped) (now edges) (now start)
+        (now end) (now «auto_start») (now «auto_end»)) ⌝ }
+    ensures { λ r. ⌜ r .0 ≡ leastUpTo (λ i. leastOf (crossNumbersAt
+        (items (now (measured .entry)) (now (minimum .entry)) (now (maximum .entry)) (now (capped .entry))
+        (now (edges .entry)) (now (start .entry)) (now (end .entry)) (now («auto_start» .entry))
+        (now («auto_end» .entry))) i) (i + 1)) (length (now (measured .entry))) ⌝ }
 {
     let sizes = mark_list(Kind::Size, measured);
     let minima = mark_list(Kind::Size, minimum);
@@ -55,8 +59,13 @@ pub fn mark_across<'a>(
     alignment: &'a [u32],
     auto_size: &'a [u32],
 ) -> Mark
-    requires { ⌜ SameLengths (items (now measured) (now minimum) (now maximum) (now capped) (now edges) (now start) (now end) (now «auto_start») (now «auto_end»)) (now alignment) (now «auto_size») ⌝ }
-    ensures { λ r. ⌜ r .0 ≡ leastUpTo (λ i. leastOf (acrossNumbersAt (items (now (measured .entry)) (now (minimum .entry)) (now (maximum .entry)) (now (capped .entry)) (now (edges .entry)) (now (start .entry)) (now (end .entry)) (now («auto_start» .entry)) (now («auto_end» .entry))) (now (alignment .entry)) (now («auto_size» .entry)) i) (i + 1)) (length (now (measured .entry))) ⌝ }
+    requires { ⌜ SameLengths (items (now measured) (now minimum) (now maximum) (now capped) (now edges) (now start)
+        (now end) (now «auto_start») (now «auto_end»)) (now alignment) (now «auto_size») ⌝ }
+    ensures { λ r. ⌜ r .0 ≡ leastUpTo (λ i. leastOf (acrossNumbersAt
+        (items (now (measured .entry)) (now (minimum .entry)) (now (maximum .entry)) (now (capped .entry))
+        (now (edges .entry)) (now (start .entry)) (now (end .entry)) (now («auto_start» .entry))
+        (now («auto_end» .entry))) (now (alignment .entry)) (now («auto_size» .entry)) i) (i + 1))
+        (length (now (measured .entry))) ⌝ }
 {
     let numbers = mark_cross_items(
         measured,

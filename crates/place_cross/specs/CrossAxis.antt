@@ -1,4 +1,5 @@
--- Document 01, "Cross axis", second half: the items of one line across it; auto margins by CSS-FLEX 9.6, as document 02, Three, asks. Assumes nothing.
+-- Document 01, "Cross axis", second half: the items of one line across it; auto margins by CSS-FLEX 9.6, as document
+-- 02, Three, asks. Assumes nothing.
 use mathlib.Core.Path.{_≡_}
 use mathlib.Core.Bool.{Bool, true, false, cond, not, _&&_, _||_}
 use mathlib.Core.List.{List}
@@ -37,8 +38,8 @@ usedSize line it stretched = cond stretched (clamp it (line ⊖ margins it)) (hy
 unfoldable pub freeSpace : Float → CrossItem → Float → Float
 freeSpace line it size = line ⊖ (size ⊕ margins it)
 
--- CSS-FLEX 9.6: "If its outer cross size .. is less than the cross size of its flex line, distribute the difference in those sizes equally to the
--- auto margins. ..
+-- CSS-FLEX 9.6: "If its outer cross size .. is less than the cross size of its flex line, distribute the difference in
+-- those sizes equally to the auto margins. ..
 unfoldable pub autoMargin : Float → CrossItem → Float
 autoMargin free it = cond (it .«auto_start» && it .«auto_end») (free ⊘ two) free
 
@@ -46,8 +47,9 @@ autoMargin free it = cond (it .«auto_start» && it .«auto_end») (free ⊘ two
 unfoldable pub startMargin : Float → CrossItem → Float
 startMargin free it = cond (it .«auto_start») (cond (lt free nought) nought (autoMargin free it)) (it .start)
 
--- .. Set the opposite margin so that the outer cross size of the item equals the cross size of its flex line." Document 02: "the negative rest is added
--- to the opposite margin. Where only the end margin is auto it takes the negative rest too." At exactly 0 both agree: auto margins 0, given ones as given
+-- .. Set the opposite margin so that the outer cross size of the item equals the cross size of its flex line." Document
+-- 02: "the negative rest is added to the opposite margin. Where only the end margin is auto it takes the negative rest
+-- too." At exactly 0 both agree: auto margins 0, given ones as given
 unfoldable pub endMargin : Float → CrossItem → Float
 endMargin free it =
     cond (it .«auto_end»)
@@ -63,29 +65,40 @@ unfoldable pub placedItem : Float → Bool → CrossItem → SelfAlignment → B
 placedItem line reversed it alignment auto-size =
     let size = usedSize line it (isStretched it alignment auto-size) in
     let free = freeSpace line it size in
-    record { size = cleaned size; start = cleaned (startMargin free it); end = cleaned (endMargin free it); offset = cleaned (crossOffset free reversed it alignment) }
+    record {
+      size = cleaned size;
+      start = cleaned (startMargin free it);
+      end = cleaned (endMargin free it);
+      offset = cleaned (crossOffset free reversed it alignment);
+    }
 
 -- ---- the items in lists
 
 abbrev pub placedAt : Float → Bool → Items → List ℕ → List ℕ → ℕ → CrossPlace
-placedAt line reversed ls alignment auto-size i = placedItem (cleaned line) reversed (crossItemAt ls i) (selfOf (getD alignment i 0)) (yes auto-size i)
+placedAt line reversed ls alignment auto-size i =
+    placedItem (cleaned line) reversed (crossItemAt ls i) (selfOf (getD alignment i 0)) (yes auto-size i)
 
 -- ---- the answers: lent cells as the call leaves them
 
 abbrev pub usedSizes : Float → Bool → Items → List ℕ → List ℕ → List Float → List Float
-usedSizes line reversed ls alignment auto-size = overwritten (count ls) (λ i. placedAt line reversed ls alignment auto-size i .size)
+usedSizes line reversed ls alignment auto-size =
+    overwritten (count ls) (λ i. placedAt line reversed ls alignment auto-size i .size)
 
 abbrev pub usedStarts : Float → Bool → Items → List ℕ → List ℕ → List Float → List Float
-usedStarts line reversed ls alignment auto-size = overwritten (count ls) (λ i. placedAt line reversed ls alignment auto-size i .start)
+usedStarts line reversed ls alignment auto-size =
+    overwritten (count ls) (λ i. placedAt line reversed ls alignment auto-size i .start)
 
 abbrev pub usedEnds : Float → Bool → Items → List ℕ → List ℕ → List Float → List Float
-usedEnds line reversed ls alignment auto-size = overwritten (count ls) (λ i. placedAt line reversed ls alignment auto-size i .end)
+usedEnds line reversed ls alignment auto-size =
+    overwritten (count ls) (λ i. placedAt line reversed ls alignment auto-size i .end)
 
 abbrev pub itemOffsets : Float → Bool → Items → List ℕ → List ℕ → List Float → List Float
-itemOffsets line reversed ls alignment auto-size = overwritten (count ls) (λ i. placedAt line reversed ls alignment auto-size i .offset)
+itemOffsets line reversed ls alignment auto-size =
+    overwritten (count ls) (λ i. placedAt line reversed ls alignment auto-size i .offset)
 
 -- the lent cells after the call, beside those before it
-pub record Across (line : Float) (reversed : Bool) (ls : Items) (alignment auto-size : List ℕ) (sizes₀ starts₀ ends₀ offsets₀ sizes starts ends offsets : List Float) : Type 0 where
+pub record Across (line : Float) (reversed : Bool) (ls : Items) (alignment auto-size : List ℕ)
+    (sizes₀ starts₀ ends₀ offsets₀ sizes starts ends offsets : List Float) : Type 0 where
   pub sizes-are : sizes ≡ usedSizes line reversed ls alignment auto-size sizes₀
   pub starts-are : starts ≡ usedStarts line reversed ls alignment auto-size starts₀
   pub ends-are : ends ≡ usedEnds line reversed ls alignment auto-size ends₀

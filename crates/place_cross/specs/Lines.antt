@@ -65,7 +65,8 @@ containerSize c alignment lines = orBounded c (innerSize c) (linesAndGaps c (lin
 
 -- "free is that size less lines, then less gaps"
 unfoldable pub freeCross : Cross → ContentAlignment → List Float → Float
-freeCross c alignment lines = containerSize c alignment lines ⊖ totalUpTo (grownAt (lineGain c alignment lines) lines) (length lines) ⊖ gaps (c .gap) (length lines)
+freeCross c alignment lines = containerSize c alignment lines ⊖ totalUpTo (grownAt (lineGain c alignment lines) lines)
+    (length lines) ⊖ gaps (c .gap) (length lines)
 
 -- ---- the answers of a container whose numbers are read: its inner cross size, and lent cells as the call leaves them
 
@@ -77,13 +78,16 @@ lineSizes c alignment lines = overwritten (length lines) (grownAt (lineGain c al
 
 -- "reversed wrapping walking from the last"
 abbrev pub lineOffsets : Cross → ContentAlignment → List Float → List Float → List Float
-lineOffsets c alignment lines = overwritten (length lines) (offsets (freeCross c alignment lines) (length lines) (c .gap) alignment (isReversed (c .wrap)))
+lineOffsets c alignment lines = overwritten (length lines) (offsets (freeCross c alignment lines) (length lines)
+    (c .gap) alignment (isReversed (c .wrap)))
 
 -- the lent cells after the call, beside those before it
-pub record Along (c : Cross) (alignment : ContentAlignment) (lines sizes₀ offsets₀ : List Float) (inner : Float) (sizes offsets₁ : List Float) : Type 0 where
+pub record Along (c : Cross) (alignment : ContentAlignment) (lines sizes₀ offsets₀ : List Float) (inner : Float)
+    (sizes offsets₁ : List Float) : Type 0 where
   pub inner-is : inner ≡ innerCross c alignment lines
   pub sizes-are : sizes ≡ lineSizes c alignment lines sizes₀
   pub offsets-are : offsets₁ ≡ lineOffsets c alignment lines offsets₀
 
-abbrev pub Aligned : Cross → ContentAlignment → List Float → List Float → List Float → Float → List Float → List Float → Type 0
+abbrev pub Aligned : Cross → ContentAlignment → List Float → List Float → List Float → Float → List Float → List Float
+    → Type 0
 Aligned c = Along (readCross c)

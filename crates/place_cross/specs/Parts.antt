@@ -1,4 +1,5 @@
--- What the parts that place the items of a line across it ask of their lists. Only contracts of parts cite it. Assumes nothing.
+-- What the parts that place the items of a line across it ask of their lists. Only contracts of parts cite it. Assumes
+-- nothing.
 use mathlib.Core.Path.{_≡_}
 use mathlib.Core.List.{List}
 use Prim.Native.Nat.{ℕ, _≤_}

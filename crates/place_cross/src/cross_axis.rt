@@ -4,7 +4,8 @@ ghost use mathlib.Core.Bool.{_&&_};
 ghost use Prim.Native.Nat.{_<_};
 ghost use lib.ListN.{length};
 ghost use Rattle.place_size.specs.CrossSize.{items};
-ghost use Rattle.place_cross.specs.CrossAxis.{isStretched, usedSize, freeSpace, autoMargin, startMargin, endMargin, crossOffset, placedItem, Across};
+ghost use Rattle.place_cross.specs.CrossAxis.{isStretched, usedSize, freeSpace, autoMargin, startMargin};
+ghost use Rattle.place_cross.specs.CrossAxis.{endMargin, crossOffset, placedItem, Across};
 ghost use Rattle.place_cross.specs.Parts.{SameLengths, AcrossRoom};
 use keywords::SelfAlignment;
 use place_size::cross_size;
@@ -149,9 +150,14 @@ pub fn place_items<'a>(
     used_end: &mut [f32],
     offsets: &mut [f32],
 )
-    requires { ⌜ SameLengths (items (now measured) (now minimum) (now maximum) (now capped) (now edges) (now start) (now end) (now «auto_start») (now «auto_end»)) (now alignment) (now «auto_size») ⌝ }
+    requires { ⌜ SameLengths (items (now measured) (now minimum) (now maximum) (now capped) (now edges) (now start)
+        (now end) (now «auto_start») (now «auto_end»)) (now alignment) (now «auto_size») ⌝ }
     requires { ⌜ AcrossRoom (length (now measured)) (now sizes) (now «used_start») (now «used_end») (now offsets) ⌝ }
-    ensures { λ _. ⌜ Across line reversed (items (now (measured .entry)) (now (minimum .entry)) (now (maximum .entry)) (now (capped .entry)) (now (edges .entry)) (now (start .entry)) (now (end .entry)) (now («auto_start» .entry)) (now («auto_end» .entry))) (now (alignment .entry)) (now («auto_size» .entry)) (now (sizes .entry)) (now («used_start» .entry)) (now («used_end» .entry)) (now (offsets .entry)) (now (sizes .exit)) (now («used_start» .exit)) (now («used_end» .exit)) (now (offsets .exit)) ⌝ }
+    ensures { λ _. ⌜ Across line reversed (items (now (measured .entry)) (now (minimum .entry)) (now (maximum .entry))
+        (now (capped .entry)) (now (edges .entry)) (now (start .entry)) (now (end .entry)) (now («auto_start» .entry))
+        (now («auto_end» .entry))) (now (alignment .entry)) (now («auto_size» .entry)) (now (sizes .entry))
+        (now («used_start» .entry)) (now («used_end» .entry)) (now (offsets .entry)) (now (sizes .exit))
+        (now («used_start» .exit)) (now («used_end» .exit)) (now (offsets .exit)) ⌝ }
 {
     let height = grid::clean(line);
     let mut i = 0;

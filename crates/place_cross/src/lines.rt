@@ -86,7 +86,8 @@ fn sum_lines(more: f32, lines: &[f32]) -> f32
 
 fn stretch_lines(more: f32, lines: &[f32], sizes: &mut [f32])
     requires { ⌜ (length (now lines) ≤ length (now sizes)) × (length (now lines) ≤ 1024) ⌝ }
-    ensures { λ _. ⌜ now (sizes .exit) ≡ overwritten (length (now (lines .entry))) (grownAt more (now (lines .entry))) (now (sizes .entry)) ⌝ }
+    ensures { λ _. ⌜ now (sizes .exit) ≡ overwritten (length (now (lines .entry))) (grownAt more (now (lines .entry)))
+        (now (sizes .entry)) ⌝ }
 {
     let mut i = 0;
     while i < lines.len() {
@@ -103,8 +104,10 @@ pub fn align_lines(
     sizes: &mut [f32],
     offsets: &mut [f32],
 ) -> f32
-    requires { ⌜ (length (now lines) ≤ length (now sizes)) × (length (now lines) ≤ length (now offsets)) × (length (now lines) ≤ 1024) ⌝ }
-    ensures { λ r. ⌜ Aligned c alignment (now (lines .entry)) (now (sizes .entry)) (now (offsets .entry)) r (now (sizes .exit)) (now (offsets .exit)) ⌝ }
+    requires { ⌜ (length (now lines) ≤ length (now sizes)) × (length (now lines) ≤ length (now offsets))
+        × (length (now lines) ≤ 1024) ⌝ }
+    ensures { λ r. ⌜ Aligned c alignment (now (lines .entry)) (now (sizes .entry)) (now (offsets .entry)) r
+        (now (sizes .exit)) (now (offsets .exit)) ⌝ }
 {
     let cross = container::read_cross(c);
     let wrap = cross.wrap;

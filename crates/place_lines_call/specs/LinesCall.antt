@@ -28,7 +28,8 @@ crossLinesInput c alignment lines = record {
 
 -- checks 1 to 5: a call without main sizes never gives 6
 unfoldable pub linesVerdict : CrossNumbers → ℕ → List Float → List ℕ → Verdict
-linesVerdict c alignment lines rooms = then (shapeOf (length lines ∷ []) rooms (length lines)) (checked (crossLinesInput c alignment lines) Passed)
+linesVerdict c alignment lines rooms =
+    then (shapeOf (length lines ∷ []) rooms (length lines)) (checked (crossLinesInput c alignment lines) Passed)
 
 -- the call's answer, and its lent lists as it returns: the lines' sizes, and their offsets
 pub record LinesResult : Type 0 where
@@ -41,13 +42,16 @@ result r s o = record { answer = r; sizes = s; offsets = o }
 
 -- what the lines of a container come to
 abbrev pub along : Cross → ℕ → List Float → List Float → List Float → LinesResult
-along c alignment lines s o = let a = contentOf alignment in result (Placed (innerCross c a lines)) (lineSizes c a lines s) (lineOffsets c a lines o)
+along c alignment lines s o = let a = contentOf alignment in result (Placed (innerCross c a lines))
+    (lineSizes c a lines s) (lineOffsets c a lines o)
 
 -- a refusal changes no cell
 abbrev pub linesInto : Verdict → CrossNumbers → ℕ → List Float → List Float → List Float → LinesResult
 linesInto (verdict.Refused why) c alignment lines s o = result (Refused why) s o
 linesInto Passed c alignment lines s o = along (readCross (crossOf c)) alignment lines s o
 
--- THE CALL ("Cross axis"): it refuses by checks 1 to 5 and changes nothing, or it answers with the inner cross size and leaves the lines' sizes and offsets
+-- THE CALL ("Cross axis"): it refuses by checks 1 to 5 and changes nothing, or it answers with the inner cross size and
+-- leaves the lines' sizes and offsets
 abbrev pub linesCall : CrossNumbers → ℕ → List Float → List Float → List Float → LinesResult
-linesCall c alignment lines s o = linesInto (linesVerdict c alignment lines (length s ∷ length o ∷ [])) c alignment lines s o
+linesCall c alignment lines s o =
+    linesInto (linesVerdict c alignment lines (length s ∷ length o ∷ [])) c alignment lines s o

@@ -29,10 +29,12 @@ count l = length (l .targets)
 
 -- "each size + (start margin + end margin), auto margins as 0"
 unfoldable pub outer : Float → ℕ → Float → ℕ → Float → Float
-outer target auto-start start auto-end end = cleaned target ⊕ (margin nought auto-start start ⊕ margin nought auto-end end)
+outer target auto-start start auto-end end =
+    cleaned target ⊕ (margin nought auto-start start ⊕ margin nought auto-end end)
 
 abbrev pub outerAt : LineLists → ℕ → Float
-outerAt l i = outer (getD (l .targets) i nan) (getD (l .auto-start) i 0) (getD (l .start) i nan) (getD (l .auto-end) i 0) (getD (l .end) i nan)
+outerAt l i = outer (getD (l .targets) i nan) (getD (l .auto-start) i 0) (getD (l .start) i nan)
+    (getD (l .auto-end) i 0) (getD (l .end) i nan)
 
 -- "Free space is inner size less the targets' used space": the gaps, and the finished sum of the outer sizes
 unfoldable pub freeSpace : Float → Float → LineLists → Float
@@ -53,14 +55,17 @@ justified free n = cond (lt nought free && ltb 0 n) nought free
 -- ---- the answers: lent cells as the call leaves them
 
 abbrev pub placedOffsets : Float → Float → ContentAlignment → Bool → LineLists → List Float → List Float
-placedOffsets inner gap justify reversed l = overwritten (count l) (offsets (justified (freeSpace inner gap l) (autoCount l)) (count l) (cleaned gap) justify reversed)
+placedOffsets inner gap justify reversed l = overwritten (count l)
+    (offsets (justified (freeSpace inner gap l) (autoCount l)) (count l) (cleaned gap) justify reversed)
 
 -- the used margins of one side
 abbrev pub usedMargins : Float → Float → LineLists → List ℕ → List Float → List Float → List Float
-usedMargins inner gap l auto margins = overwritten (count l) (marginAt (autoShare (freeSpace inner gap l) (autoCount l)) auto margins)
+usedMargins inner gap l auto margins =
+    overwritten (count l) (marginAt (autoShare (freeSpace inner gap l) (autoCount l)) auto margins)
 
 -- the lent cells after the call, beside those before it
-pub record Spaced (inner gap : Float) (justify : ContentAlignment) (reversed : Bool) (l : LineLists) (offsets₀ starts₀ ends₀ offsets₁ starts ends : List Float) : Type 0 where
+pub record Spaced (inner gap : Float) (justify : ContentAlignment) (reversed : Bool) (l : LineLists)
+    (offsets₀ starts₀ ends₀ offsets₁ starts ends : List Float) : Type 0 where
   pub offsets-are : offsets₁ ≡ placedOffsets inner gap justify reversed l offsets₀
   pub starts-are : starts ≡ usedMargins inner gap l (l .auto-start) (l .start) starts₀
   pub ends-are : ends ≡ usedMargins inner gap l (l .auto-end) (l .end) ends₀

@@ -28,7 +28,8 @@ fn outer_sum<'a>(
     auto_end: &'a [u32],
 ) -> f32
     requires { ⌜ MainOneLength (lineLists (now targets) (now start) (now end) (now «auto_start») (now «auto_end»)) ⌝ }
-    ensures { λ r. ⌜ r ≡ totalUpTo (outerAt (lineLists (now (targets .entry)) (now (start .entry)) (now (end .entry)) (now («auto_start» .entry)) (now («auto_end» .entry)))) (length (now (targets .entry))) ⌝ }
+    ensures { λ r. ⌜ r ≡ totalUpTo (outerAt (lineLists (now (targets .entry)) (now (start .entry)) (now (end .entry))
+        (now («auto_start» .entry)) (now («auto_end» .entry)))) (length (now (targets .entry))) ⌝ }
 {
     let mut sum = 0.0;
     let mut i = 0;
@@ -50,7 +51,8 @@ fn free_space<'a>(
     auto_end: &'a [u32],
 ) -> f32
     requires { ⌜ MainOneLength (lineLists (now targets) (now start) (now end) (now «auto_start») (now «auto_end»)) ⌝ }
-    ensures { λ r. ⌜ r ≡ freeSpace inner gap (lineLists (now (targets .entry)) (now (start .entry)) (now (end .entry)) (now («auto_start» .entry)) (now («auto_end» .entry))) ⌝ }
+    ensures { λ r. ⌜ r ≡ freeSpace inner gap (lineLists (now (targets .entry)) (now (start .entry)) (now (end .entry))
+        (now («auto_start» .entry)) (now («auto_end» .entry))) ⌝ }
 {
     let between = sum_axis_gaps(grid::clean(gap), targets.len());
     let taken = between + outer_sum(targets, start, end, auto_start, auto_end);
@@ -116,8 +118,12 @@ pub fn distribute_remaining_free_space<'a>(
     used_end: &mut [f32],
 )
     requires { ⌜ MainOneLength (lineLists (now targets) (now start) (now end) (now «auto_start») (now «auto_end»)) ⌝ }
-    requires { ⌜ (length (now targets) ≤ length (now offsets)) × (length (now targets) ≤ length (now «used_start»)) × (length (now targets) ≤ length (now «used_end»)) ⌝ }
-    ensures { λ _. ⌜ Spaced inner gap justify reversed (lineLists (now (targets .entry)) (now (start .entry)) (now (end .entry)) (now («auto_start» .entry)) (now («auto_end» .entry))) (now (offsets .entry)) (now («used_start» .entry)) (now («used_end» .entry)) (now (offsets .exit)) (now («used_start» .exit)) (now («used_end» .exit)) ⌝ }
+    requires { ⌜ (length (now targets) ≤ length (now offsets)) × (length (now targets) ≤ length (now «used_start»))
+        × (length (now targets) ≤ length (now «used_end»)) ⌝ }
+    ensures { λ _. ⌜ Spaced inner gap justify reversed (lineLists (now (targets .entry)) (now (start .entry))
+        (now (end .entry)) (now («auto_start» .entry)) (now («auto_end» .entry))) (now (offsets .entry))
+        (now («used_start» .entry)) (now («used_end» .entry)) (now (offsets .exit)) (now («used_start» .exit))
+        (now («used_end» .exit)) ⌝ }
 {
     let free = free_space(inner, gap, targets, start, end, auto_start, auto_end);
     let count = count_auto(auto_start) + count_auto(auto_end);

@@ -34,7 +34,8 @@ fn check_main_shape(
     used_start: usize,
     used_end: usize,
 ) -> Verdict
-    ensures { λ r. ⌜ r ≡ shapeOf (n ∷ start ∷ end ∷ «auto_start» ∷ «auto_end» ∷ []) (offsets ∷ «used_start» ∷ «used_end» ∷ []) n ⌝ }
+    ensures { λ r. ⌜ r ≡ shapeOf (n ∷ start ∷ end ∷ «auto_start» ∷ «auto_end» ∷ [])
+        (offsets ∷ «used_start» ∷ «used_end» ∷ []) n ⌝ }
 {
     let longest = larger(
         n,
@@ -83,7 +84,9 @@ fn check_main_numbers<'a>(
     auto_end: &'a [u32],
 ) -> Verdict
     requires { ⌜ MainOneLength (lineLists (now targets) (now start) (now end) (now «auto_start») (now «auto_end»)) ⌝ }
-    ensures { λ r. ⌜ r ≡ checked (mainInput inner gap justify reversed (lineLists (now (targets .entry)) (now (start .entry)) (now (end .entry)) (now («auto_start» .entry)) (now («auto_end» .entry)))) Passed ⌝ }
+    ensures { λ r. ⌜ r ≡ checked (mainInput inner gap justify reversed
+        (lineLists (now (targets .entry)) (now (start .entry)) (now (end .entry)) (now («auto_start» .entry))
+        (now («auto_end» .entry)))) Passed ⌝ }
 {
     let container = mark_main_container(inner, gap, justify, reversed);
     let margins = least(
@@ -107,7 +110,10 @@ pub fn place_main<'a>(
     used_start: &mut [f32],
     used_end: &mut [f32],
 ) -> Answer
-    ensures { λ r. ⌜ result r (now (offsets .exit)) (now («used_start» .exit)) (now («used_end» .exit)) ≡ mainCall inner gap justify reversed (lineLists (now (targets .entry)) (now (start .entry)) (now (end .entry)) (now («auto_start» .entry)) (now («auto_end» .entry))) (now (offsets .entry)) (now («used_start» .entry)) (now («used_end» .entry)) ⌝ }
+    ensures { λ r. ⌜ result r (now (offsets .exit)) (now («used_start» .exit)) (now («used_end» .exit))
+        ≡ mainCall inner gap justify reversed (lineLists (now (targets .entry)) (now (start .entry)) (now (end .entry))
+        (now («auto_start» .entry)) (now («auto_end» .entry))) (now (offsets .entry)) (now («used_start» .entry))
+        (now («used_end» .entry)) ⌝ }
 {
     let shape = check_main_shape(
         targets.len(),

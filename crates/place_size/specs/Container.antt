@@ -8,7 +8,13 @@ use Rattle.place_size.specs.declared.container.Cross.{Cross}
 
 -- "-0.0 reads as 0"
 unfoldable pub readCross : Cross → Cross
-readCross c = record { inner = readBound (c .inner); minimum = readBound (c .minimum); maximum = readBound (c .maximum); gap = cleaned (c .gap); wrap = c .wrap }
+readCross c = record {
+  inner = readBound (c .inner);
+  minimum = readBound (c .minimum);
+  maximum = readBound (c .maximum);
+  gap = cleaned (c .gap);
+  wrap = c .wrap;
+}
 
 -- "clamped by the container's inner cross bounds": lowered to the maximum, then raised to the minimum
 unfoldable pub bounded : Cross → Float → Float

@@ -34,7 +34,17 @@ unfoldable pub outerSize : CrossItem → Float
 outerSize it = hypotheticalCross it ⊕ margins it
 
 abbrev pub readItem : CrossItem → CrossItem
-readItem it = record { measured = cleaned (it .measured); minimum = cleaned (it .minimum); maximum = cleaned (it .maximum); capped = it .capped; edges = cleaned (it .edges); start = cleaned (it .start); end = cleaned (it .end); «auto_start» = it .«auto_start»; «auto_end» = it .«auto_end» }
+readItem it = record {
+  measured = cleaned (it .measured);
+  minimum = cleaned (it .minimum);
+  maximum = cleaned (it .maximum);
+  capped = it .capped;
+  edges = cleaned (it .edges);
+  start = cleaned (it .start);
+  end = cleaned (it .end);
+  «auto_start» = it .«auto_start»;
+  «auto_end» = it .«auto_end»;
+}
 
 -- ---- the items of a line in lists
 
@@ -49,8 +59,19 @@ pub record Items : Type 0 where
   pub auto-start : List ℕ
   pub auto-end : List ℕ
 
-abbrev pub items : List Float → List Float → List Float → List ℕ → List Float → List Float → List Float → List ℕ → List ℕ → Items
-items m l h k e s t p q = record { measured = m; minimum = l; maximum = h; capped = k; edges = e; start = s; end = t; auto-start = p; auto-end = q }
+abbrev pub items : List Float → List Float → List Float → List ℕ → List Float → List Float → List Float → List ℕ
+    → List ℕ → Items
+items m l h k e s t p q = record {
+  measured = m;
+  minimum = l;
+  maximum = h;
+  capped = k;
+  edges = e;
+  start = s;
+  end = t;
+  auto-start = p;
+  auto-end = q;
+}
 
 abbrev pub count : Items → ℕ
 count ls = length (ls .measured)
@@ -85,8 +106,8 @@ largest f (suc n) = raised (largest f n) (f n)
 abbrev pub largestOuter : Items → Float
 largestOuter ls = largest (λ i. outerSize (crossItemAt ls i)) (count ls)
 
--- "Line size is the inner cross size for a single-line definite container, else the largest outer cross size .. and zero, clamped by the
--- container's inner cross bounds if single-line"
+-- "Line size is the inner cross size for a single-line definite container, else the largest outer cross size .. and
+-- zero, clamped by the container's inner cross bounds if single-line"
 unfoldable pub lineCrossSize : Cross → Float → Float
 lineCrossSize c x = cleaned (cond (isSingleLine (c .wrap)) (orBounded c (innerSize c) x) x)
 

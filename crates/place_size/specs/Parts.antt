@@ -1,4 +1,5 @@
--- What the parts that read the items of a line across it ask of their lists. Only contracts of parts cite it. Assumes nothing.
+-- What the parts that read the items of a line across it ask of their lists. Only contracts of parts cite it. Assumes
+-- nothing.
 use mathlib.Core.Path.{_≡_}
 use Prim.Native.Nat.{_≤_}
 use lib.ListN.{length}

@@ -2,7 +2,8 @@
 ghost use mathlib.Core.Path.{_≡_};
 ghost use Prim.Native.Nat.{_<_};
 ghost use lib.ListN.{length};
-ghost use Rattle.place_size.specs.CrossSize.{clamp, orNought, margins, outerSize, readItem, items, crossItemAt, largestOuter, lineCrossSize, crossLineSize};
+ghost use Rattle.place_size.specs.CrossSize.{clamp, orNought, margins, outerSize, readItem, items, crossItemAt};
+ghost use Rattle.place_size.specs.CrossSize.{largestOuter, lineCrossSize, crossLineSize};
 ghost use Rattle.place_size.specs.Parts.{CrossOneLength};
 use crate::container;
 use crate::container::Cross;
@@ -82,9 +83,12 @@ pub fn item_at<'a>(
     auto_end: &'a [u32],
     i: usize,
 ) -> CrossItem
-    requires { ⌜ CrossOneLength (items (now measured) (now minimum) (now maximum) (now capped) (now edges) (now start) (now end) (now «auto_start») (now «auto_end»)) ⌝ }
+    requires { ⌜ CrossOneLength (items (now measured) (now minimum) (now maximum) (now capped) (now edges) (now start)
+        (now end) (now «auto_start») (now «auto_end»)) ⌝ }
     requires { ⌜ i < length (now measured) ⌝ }
-    ensures { λ r. ⌜ r ≡ crossItemAt (items (now (measured .entry)) (now (minimum .entry)) (now (maximum .entry)) (now (capped .entry)) (now (edges .entry)) (now (start .entry)) (now (end .entry)) (now («auto_start» .entry)) (now («auto_end» .entry))) i ⌝ }
+    ensures { λ r. ⌜ r ≡ crossItemAt (items (now (measured .entry)) (now (minimum .entry)) (now (maximum .entry))
+        (now (capped .entry)) (now (edges .entry)) (now (start .entry)) (now (end .entry)) (now («auto_start» .entry))
+        (now («auto_end» .entry))) i ⌝ }
 {
     let has_maximum = capped[i];
     let start_is_auto = auto_start[i];
@@ -114,8 +118,11 @@ fn largest_outer<'a>(
     auto_start: &'a [u32],
     auto_end: &'a [u32],
 ) -> f32
-    requires { ⌜ CrossOneLength (items (now measured) (now minimum) (now maximum) (now capped) (now edges) (now start) (now end) (now «auto_start») (now «auto_end»)) ⌝ }
-    ensures { λ r. ⌜ r ≡ largestOuter (items (now (measured .entry)) (now (minimum .entry)) (now (maximum .entry)) (now (capped .entry)) (now (edges .entry)) (now (start .entry)) (now (end .entry)) (now («auto_start» .entry)) (now («auto_end» .entry))) ⌝ }
+    requires { ⌜ CrossOneLength (items (now measured) (now minimum) (now maximum) (now capped) (now edges) (now start)
+        (now end) (now «auto_start») (now «auto_end»)) ⌝ }
+    ensures { λ r. ⌜ r ≡ largestOuter (items (now (measured .entry)) (now (minimum .entry)) (now (maximum .entry))
+        (now (capped .entry)) (now (edges .entry)) (now (start .entry)) (now (end .entry)) (now («auto_start» .entry))
+        (now («auto_end» .entry))) ⌝ }
 {
     let mut most = 0.0;
     let mut i = 0;
@@ -162,8 +169,11 @@ pub fn calculate_cross_size<'a>(
     auto_start: &'a [u32],
     auto_end: &'a [u32],
 ) -> f32
-    requires { ⌜ CrossOneLength (items (now measured) (now minimum) (now maximum) (now capped) (now edges) (now start) (now end) (now «auto_start») (now «auto_end»)) ⌝ }
-    ensures { λ r. ⌜ r ≡ crossLineSize c (items (now (measured .entry)) (now (minimum .entry)) (now (maximum .entry)) (now (capped .entry)) (now (edges .entry)) (now (start .entry)) (now (end .entry)) (now («auto_start» .entry)) (now («auto_end» .entry))) ⌝ }
+    requires { ⌜ CrossOneLength (items (now measured) (now minimum) (now maximum) (now capped) (now edges) (now start)
+        (now end) (now «auto_start») (now «auto_end»)) ⌝ }
+    ensures { λ r. ⌜ r ≡ crossLineSize c (items (now (measured .entry)) (now (minimum .entry)) (now (maximum .entry))
+        (now (capped .entry)) (now (edges .entry)) (now (start .entry)) (now (end .entry)) (now («auto_start» .entry))
+        (now («auto_end» .entry))) ⌝ }
 {
     let most = largest_outer(
         measured,

@@ -35,7 +35,8 @@ fn check_size_shape(
     auto_start: usize,
     auto_end: usize,
 ) -> Verdict
-    ensures { λ r. ⌜ r ≡ shapeOf (measured ∷ minimum ∷ maximum ∷ capped ∷ edges ∷ start ∷ end ∷ «auto_start» ∷ «auto_end» ∷ []) [] measured ⌝ }
+    ensures { λ r. ⌜ r ≡ shapeOf (measured ∷ minimum ∷ maximum ∷ capped ∷ edges ∷ start ∷ end ∷ «auto_start» ∷
+        «auto_end» ∷ []) [] measured ⌝ }
 {
     let longest = lengths::longest_list(
         measured,
@@ -77,8 +78,11 @@ fn check_size_numbers<'a>(
     auto_start: &'a [u32],
     auto_end: &'a [u32],
 ) -> Verdict
-    requires { ⌜ CrossOneLength (items (now measured) (now minimum) (now maximum) (now capped) (now edges) (now start) (now end) (now «auto_start») (now «auto_end»)) ⌝ }
-    ensures { λ r. ⌜ r ≡ checked (sizeInput c (items (now (measured .entry)) (now (minimum .entry)) (now (maximum .entry)) (now (capped .entry)) (now (edges .entry)) (now (start .entry)) (now (end .entry)) (now («auto_start» .entry)) (now («auto_end» .entry)))) Passed ⌝ }
+    requires { ⌜ CrossOneLength (items (now measured) (now minimum) (now maximum) (now capped) (now edges) (now start)
+        (now end) (now «auto_start») (now «auto_end»)) ⌝ }
+    ensures { λ r. ⌜ r ≡ checked (sizeInput c (items (now (measured .entry)) (now (minimum .entry))
+        (now (maximum .entry)) (now (capped .entry)) (now (edges .entry)) (now (start .entry)) (now (end .entry))
+        (now («auto_start» .entry)) (now («auto_end» .entry)))) Passed ⌝ }
 {
     let container = numbers::mark_sizing(c);
     let line = marks::mark_cross_items(
@@ -107,7 +111,9 @@ pub fn size_line<'a>(
     auto_start: &'a [u32],
     auto_end: &'a [u32],
 ) -> SizeAnswer
-    ensures { λ r. ⌜ r ≡ sizeCall c (items (now (measured .entry)) (now (minimum .entry)) (now (maximum .entry)) (now (capped .entry)) (now (edges .entry)) (now (start .entry)) (now (end .entry)) (now («auto_start» .entry)) (now («auto_end» .entry))) ⌝ }
+    ensures { λ r. ⌜ r ≡ sizeCall c (items (now (measured .entry)) (now (minimum .entry)) (now (maximum .entry))
+        (now (capped .entry)) (now (edges .entry)) (now (start .entry)) (now (end .entry)) (now («auto_start» .entry))
+        (now («auto_end» .entry))) ⌝ }
 {
     let shape = check_size_shape(
         measured.len(),
