@@ -1,5 +1,5 @@
 #!/usr/bin/env python3
-"""Writes a capture (README.md, "The calls") from a line of text, to standard output.
+"""Writes a capture (docs/USING.md, "Captures") from a line of text, to standard output.
 
     tools/capture.py limit 100 gap 10 min 1 / 70 / 0 / 20 > p1.capture
     tools/capture.py limit max gap 0 min 9 / 5 | build/captures-program

@@ -1,5 +1,5 @@
--- The balanced division of accepted sizes, by the plain rule, and the work cells after it. Only contracts of parts cite
--- it. Assumes nothing.
+-- The balanced division of accepted sizes, by the plain rule, and the lent work cells after it. Only contracts of
+-- parts cite it. Assumes nothing.
 use mathlib.Core.Path.{_≡_}
 use mathlib.Core.List.{List, _++_}
 use Prim.Native.Nat.{ℕ, _-_}

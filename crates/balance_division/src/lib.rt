@@ -1,5 +1,5 @@
-// The balanced division of accepted sizes, by the plain rule, with the work cells left zero. Parts of balanced
-// breaking, behind its checks: no entry points.
+// The balanced division of accepted sizes, by the plain rule, with the lent work cells left zero. Parts of
+// balanced breaking, behind its checks: no entry points.
 ghost use mathlib.Core.Path.{_≡_};
 ghost use Prim.Native.Nat.{_*_};
 ghost use lib.ListN.{length};

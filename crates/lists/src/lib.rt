@@ -1,5 +1,5 @@
-// Lent lists of cells: clearing a range, and copying. Every wing writes with them. No entry points: the cells are
-// there.
+// Lent lists of cells: clearing a range, and copying. Breaking, flexing and the pass write with them. No entry points:
+// the cells are there.
 ghost use mathlib.Core.Path.{_≡_};
 ghost use Prim.Native.Nat.{_≤_, _<_};
 ghost use lib.ListN.{length, set};
@@ -31,7 +31,7 @@ pub fn clear_f64(cells: &mut [f64], from: usize, to: usize)
     }
 }
 
-// Sets one cell. No entry point.
+// Sets one cell: a signed number is stored as it is. No entry point.
 pub fn put_i32(cells: &mut [i32], i: usize, x: i32)
     requires { ⌜ i < length (now cells) ⌝ }
     ensures { λ _. ⌜ now (cells .exit) ≡ set (now (cells .entry)) i x ⌝ }
@@ -39,7 +39,7 @@ pub fn put_i32(cells: &mut [i32], i: usize, x: i32)
     cells[i] = x;
 }
 
-// The same of signed numbers. No entry point.
+// Clears a range of signed numbers. No entry point.
 pub fn clear_i32(cells: &mut [i32], from: usize, to: usize)
     requires { ⌜ (from ≤ to) × (to ≤ length (now cells)) ⌝ }
     ensures { λ _. ⌜ now (cells .exit) ≡ filled (pos 0) from to (now (cells .entry)) ⌝ }

@@ -1,4 +1,4 @@
-pub mod Each
+pub mod Totals
 pub mod Spread
 pub mod Fallback
 pub mod InOrder

@@ -12,7 +12,7 @@ use Rattle.lists.specs.Cells.{overwritten}
 use Rattle.place_align.specs.Axis.{marginAt, autos, offsets}
 use Rattle.place_main.specs.MainAxis.{LineLists, count, freeSpace, autoCount, autoShare, justified, Spaced}
 use Rattle.place_main.specs.Parts.{MainOneLength}
-use Rattle.place_align.proofs.Each.{autos-within}
+use Rattle.place_align.proofs.Totals.{autos-within}
 
 -- no line has more than 2,048 auto margins
 pub autos-few : (auto : List ℕ) {k : ℕ} → length auto ≤ 1024 → k ≡ autos auto (length auto) → k ≤ 1024

@@ -7,7 +7,7 @@ use lib.ListN.{length}
 use denote.Ref.{now}
 use Rattle.place_align.specs.Sums.{totalUpTo}
 use Rattle.place_cross.specs.Lines.{grownAt}
-use Rattle.place_align.proofs.Each.{total-none, total-turn}
+use Rattle.place_align.proofs.Totals.{total-none, total-turn}
 use borrow.Author.Needs.{needs}
 use Rattle.place_cross.proofs.lines.sum_lines.Statement.{statement}
 use Rattle.place_cross.proofs.lines.sum_lines.Tie as tie

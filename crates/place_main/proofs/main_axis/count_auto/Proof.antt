@@ -7,7 +7,7 @@ use denote.Ref.{now}
 use native.Mathlib.Nat.{le-antisymm}
 use borrow.Author.Tests.{eq-eqb, ne-eqb}
 use Rattle.place_align.specs.Axis.{autos}
-use Rattle.place_align.proofs.Each.{autos-none, autos-pass, autos-more, autos-within}
+use Rattle.place_align.proofs.Totals.{autos-none, autos-pass, autos-more, autos-within}
 use Rattle.place_main.proofs.main_axis.count_auto.Statement.{statement}
 use Rattle.place_main.proofs.main_axis.count_auto.Tie as tie
 

@@ -7,7 +7,7 @@ use denote.Ref.{now}
 use native.Mathlib.Nat.{le-antisymm}
 use Rattle.place_align.specs.Sums.{totalUpTo}
 use Rattle.place_main.specs.MainAxis.{lineLists, outerAt}
-use Rattle.place_align.proofs.Each.{total-none, total-turn}
+use Rattle.place_align.proofs.Totals.{total-none, total-turn}
 use borrow.Author.Needs.{needs}
 use Rattle.place_main.proofs.main_axis.outer_sum.Statement.{statement}
 use Rattle.place_main.proofs.main_axis.outer_sum.Tie as tie
