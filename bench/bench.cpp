@@ -43,7 +43,8 @@ std::vector<float> gauges(std::size_t n) {
 
 std::size_t greedy_lines(const std::vector<float> &sizes, float limit) {
     std::vector<uint32_t> counts(sizes.size());
-    return fratolivem_greedy(FRATOLIVEM_DEFINITE, limit, gap, sizes.data(), sizes.size(), counts.data(), counts.size()).lines;
+    return fratolivem_greedy(FRATOLIVEM_DEFINITE, limit, gap, sizes.data(), sizes.size(), counts.data(), counts.size())
+        .lines;
 }
 
 // The least limit, in sixty-fourths, under which greedy breaking makes at most this many lines.
@@ -51,8 +52,10 @@ int least_limit(const std::vector<float> &sizes, std::size_t lines) {
     int low = 0, high = 262144 * 64;
     while (low < high) {
         const int middle = low + (high - low) / 2;
-        if (greedy_lines(sizes, float(middle) / 64.0f) <= lines) high = middle;
-        else low = middle + 1;
+        if (greedy_lines(sizes, float(middle) / 64.0f) <= lines)
+            high = middle;
+        else
+            low = middle + 1;
     }
     return low;
 }
@@ -100,12 +103,14 @@ void balanced(const char *name, const std::vector<List> &lists, int repetitions)
     std::vector<List> too_large;
     for (const List &list : lists) {
         const uint32_t lines = ours(list, room);
-        differ += lines != theirs(list, room) || !std::equal(room.counts.begin(), room.counts.begin() + lines, room.other.begin());
+        differ += lines != theirs(list, room) ||
+                  !std::equal(room.counts.begin(), room.counts.begin() + lines, room.other.begin());
         too_large.push_back(refused(list));
     }
-    const auto t = measure(lists.size(), repetitions,
-                           {[&](std::size_t i) { theirs(lists[i], room); }, [&](std::size_t i) { ours(lists[i], room); },
-                            [&](std::size_t) { clear(room); }, [&](std::size_t i) { ours(too_large[i], room); }});
+    const auto t =
+        measure(lists.size(), repetitions,
+                {[&](std::size_t i) { theirs(lists[i], room); }, [&](std::size_t i) { ours(lists[i], room); },
+                 [&](std::size_t) { clear(room); }, [&](std::size_t i) { ours(too_large[i], room); }});
     std::printf("%-34s %5zu %9.0f %9.0f %7.3f %9.0f %7.3f %9.0f %6zu\n", name, n, t[0], t[1], t[1] / t[0], t[2],
                 (t[1] - t[2]) / t[0], t[3], differ);
     std::fflush(stdout);
@@ -122,15 +127,16 @@ void greedy(const std::vector<List> &lists, int repetitions) {
         return judge_lines(0, &c, items[i], room.other.data());
     };
     auto here = [&](std::size_t i) {
-        return fratolivem_greedy(lists[i].kind, lists[i].limit, gap, lists[i].sizes.data(), n, room.counts.data(), n).lines;
+        return fratolivem_greedy(lists[i].kind, lists[i].limit, gap, lists[i].sizes.data(), n, room.counts.data(), n)
+            .lines;
     };
     for (std::size_t i = 0; i < lists.size(); i++) {
         const uint32_t lines = here(i);
         differ += lines != rust(i) || !std::equal(room.counts.begin(), room.counts.begin() + lines, room.other.begin());
     }
     const auto t = measure(lists.size(), repetitions, {rust, here});
-    std::printf("\ngreedy, definite limit: Rust %.0f ns, ours with its checks %.0f ns, ratio %.2f, %zu differ\n", t[0], t[1],
-                t[1] / t[0], differ);
+    std::printf("\ngreedy, definite limit: Rust %.0f ns, ours with its checks %.0f ns, ratio %.2f, %zu differ\n", t[0],
+                t[1], t[1] / t[0], differ);
     for (judge_list *list : items) judge_drop(list);
 }
 
@@ -145,8 +151,10 @@ std::vector<List> many(std::size_t count, const std::function<List()> &make) {
 int main(int argc, char **argv) {
     const int repetitions = argc > 1 ? std::atoi(argv[1]) : 60;
     const std::size_t count = argc > 2 ? std::size_t(std::atoi(argv[2])) : 1000;
-    std::printf("%zu lists, %d repetitions, chunks of %zu; ns for one list, checks and clearing counted\n", count, repetitions, chunk);
-    std::printf("%-34s %5s %9s %9s %7s %9s %7s %9s %6s\n", "", "n", "Rust", "ours", "ratio", "clearing", "without", "checks", "differ");
+    std::printf("%zu lists, %d repetitions, chunks of %zu; ns for one list, checks and clearing counted\n", count,
+                repetitions, chunk);
+    std::printf("%-34s %5s %9s %9s %7s %9s %7s %9s %6s\n", "", "n", "Rust", "ours", "ratio", "clearing", "without",
+                "checks", "differ");
     const auto middle = many(count, [] { return limited(200, 0.5); });
     balanced("definite limit, 12 lines", middle, repetitions);
     balanced("  the tightest such limit", many(count / 4, [] { return limited(200, 0.0); }), repetitions);

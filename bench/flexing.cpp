@@ -1,6 +1,7 @@
 // Times fratolivem_flex_line beside the Rust's own resolve_flexible_lengths, in one process. A benchmark, not a test.
-// The Rust's items are made, and their base and hypothetical sizes worked out, before the clock starts: it is timed on 9.7 alone and makes no
-// checks. Ours is the whole call: checks 1 to 6, the lists read into a table, 9.7 and the free space.
+// The Rust's items are made, and their base and hypothetical sizes worked out, before the clock starts: it is timed on
+// 9.7 alone and makes no checks. Ours is the whole call: checks 1 to 6, the lists read into a table, 9.7 and the free
+// space.
 #include <cstdio>
 #include <cstdlib>
 #include <cstring>
@@ -23,10 +24,12 @@ struct Line {
     std::vector<uint32_t> has_maximum, auto_start, auto_end;
 };
 
-// Gauges of 20 to 120 px in a line that has half as much room again, or half too little. With violations, bounds near the bases end the loop
-// only after several rounds.
+// Gauges of 20 to 120 px in a line that has half as much room again, or half too little. With violations, bounds near
+// the bases end the loop only after several rounds.
 Line line(std::size_t n, Way way) {
-    const auto px = [](int least, int most) { return float(least * 64 + int(random_bits() % uint64_t((most - least) * 64))) / 64.0f; };
+    const auto px = [](int least, int most) {
+        return float(least * 64 + int(random_bits() % uint64_t((most - least) * 64))) / 64.0f;
+    };
     Line l;
     float sum = 0;
     for (std::size_t i = 0; i < n; i++) {
@@ -46,7 +49,8 @@ Line line(std::size_t n, Way way) {
 }
 
 fratolivem::flexed ours(const Line &l, std::vector<float> &targets) {
-    const fratolivem::flex_columns items{l.base, l.minimum, l.maximum, l.has_maximum, l.edges, l.grow, l.shrink, l.start, l.end, l.auto_start, l.auto_end};
+    const fratolivem::flex_columns items{l.base,   l.minimum, l.maximum, l.has_maximum, l.edges,   l.grow,
+                                         l.shrink, l.start,   l.end,     l.auto_start,  l.auto_end};
     return fratolivem::flex_line(l.container.inner_main, l.container.gap_main, items, targets);
 }
 
@@ -65,15 +69,16 @@ void flexing(const char *name, std::size_t n, Way way, std::size_t count, int re
         rounds += a.rounds;
         differ += !a || std::memcmp(here.data(), there.data(), n * sizeof(float)) != 0;
     }
-    // The same line with a sum that is refused last of all: what is left of the call is its checks, and its frame cleared and the items read into it.
-    // The rest, "9.7", is what the Rust does too.
+    // The same line with a sum that is refused last of all: what is left of the call is its checks, and its frame
+    // cleared and the items read into it. The rest, "9.7", is what the Rust does too.
     std::vector<Line> refused = lines;
     for (Line &l : refused) l.base.back() = l.maximum.back() = 262144.0f;
-    const auto t = measure(count, repetitions,
-                           {[&](std::size_t i) { judge_line_flex(rust[i]); }, [&](std::size_t i) { (void)ours(lines[i], here); },
-                            [&](std::size_t i) { (void)ours(refused[i], here); }});
-    std::printf("%-12s %5zu %7.2f %9.0f %9.0f %7.3f %9.0f %7.3f %6zu\n", name, n, rounds / double(count), t[0], t[1], t[1] / t[0], t[2],
-                (t[1] - t[2]) / t[0], differ);
+    const auto t =
+        measure(count, repetitions,
+                {[&](std::size_t i) { judge_line_flex(rust[i]); }, [&](std::size_t i) { (void)ours(lines[i], here); },
+                 [&](std::size_t i) { (void)ours(refused[i], here); }});
+    std::printf("%-12s %5zu %7.2f %9.0f %9.0f %7.3f %9.0f %7.3f %6zu\n", name, n, rounds / double(count), t[0], t[1],
+                t[1] / t[0], t[2], (t[1] - t[2]) / t[0], differ);
     std::fflush(stdout);
     for (judge_line *l : rust) judge_line_drop(l);
 }
@@ -84,7 +89,8 @@ int main(int argc, char **argv) {
     const int repetitions = argc > 1 ? std::atoi(argv[1]) : 200;
     const std::size_t count = argc > 2 ? std::size_t(std::atoi(argv[2])) : 200;
     std::printf("flexing one line, %d repetitions; ns for one line, checks counted\n", repetitions);
-    std::printf("%-12s %5s %7s %9s %9s %7s %9s %7s %6s\n", "", "n", "rounds", "Rust", "ours", "ratio", "checks", "9.7", "differ");
+    std::printf("%-12s %5s %7s %9s %9s %7s %9s %7s %6s\n", "", "n", "rounds", "Rust", "ours", "ratio", "checks", "9.7",
+                "differ");
     for (std::size_t n : {4, 32, 1024}) {
         const std::size_t lines = n == 1024 ? std::max<std::size_t>(chunk, count / 10) : count;
         flexing("growing", n, Way::growing, lines, repetitions);

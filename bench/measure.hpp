@@ -1,5 +1,6 @@
-// Times several sides on the same lists. A shared machine drifts by a factor of two within a second. So the lists go by in small chunks, every
-// side is timed on a chunk before the next, all chunks are repeated many times, and of each chunk and side the least time counts.
+// Times several sides on the same lists. A shared machine drifts by a factor of two within a second. So the lists go by
+// in small chunks, every side is timed on a chunk before the next, all chunks are repeated many times, and of each
+// chunk and side the least time counts.
 #ifndef MEASURE_HPP
 #define MEASURE_HPP
 

@@ -1,6 +1,8 @@
-// The wall: a truck panel and a road panel of gauges, and a low strip of lamp icons, laid out driving and then parked. Parked, the truck's slip is 0
-// divided by 0, and a careless measure makes a NaN width of it. That panel is refused and keeps its last good frame; the others are laid out as ever.
-// wall GAUGES FOLDER: reads the gauges, prints both frames, and draws each into FOLDER as wall-driving.svg and wall-parked.svg.
+// The wall: a truck panel and a road panel of gauges, and a low strip of lamp icons, laid out driving and then parked.
+// Parked, the truck's slip is 0 divided by 0, and a careless measure makes a NaN width of it. That panel is refused and
+// keeps its last good frame; the others are laid out as ever.
+// wall GAUGES FOLDER: reads the gauges, prints both frames, and draws each into FOLDER as wall-driving.svg and
+// wall-parked.svg.
 #include <cmath>
 #include <cstdio>
 #include <fstream>
@@ -65,7 +67,8 @@ fratolivem::item icon() {
     return it;
 }
 
-// The host's measuring. A bar is as long as its value, so what is wrong with the value is wrong with the width: nothing here looks.
+// The host's measuring. A bar is as long as its value, so what is wrong with the value is wrong with the width: nothing
+// here looks.
 fratolivem::item measure(const gauge &g, float value) {
     if (g.kind == "dial") return {104, 104};
     if (g.kind == "icon") return icon();
@@ -87,7 +90,8 @@ fratolivem::container panel_container() {
     return c.across({}, 8, 120);
 }
 
-// The strip is one line, and lower than its icons: their auto margins leave them at its upper edge, so that they overflow below alone.
+// The strip is one line, and lower than its icons: their auto margins leave them at its upper edge, so that they
+// overflow below alone.
 fratolivem::container strip_container() {
     fratolivem::container c{960, 8, fratolivem::space::max_content()};
     return c.across(24, 0);
@@ -115,21 +119,23 @@ void print_overflow(const wall_panel &p) {
     for (std::size_t i = 0; i < boxes.size(); i++) {
         const float start = boxes[i].cross, end = start + boxes[i].cross_size;
         if (start < 0 || end > f.inner_cross)
-            std::printf("    %s overflows: from %g to %g px of %g (used margins %g and %g)\n", p.gauges[i].label.c_str(), double(start), double(end),
-                        double(f.inner_cross), double(f.items[i].cross_start), double(f.items[i].cross_end));
+            std::printf("    %s overflows: from %g to %g px of %g (used margins %g and %g)\n",
+                        p.gauges[i].label.c_str(), double(start), double(end), double(f.inner_cross),
+                        double(f.items[i].cross_start), double(f.items[i].cross_end));
     }
 }
 
 void print(const wall_panel &p) {
     const fratolivem::frame &f = p.panel.last();
-    std::printf("  %s: %zu gauges in %zu line%s, %g px high%s%s\n", p.name.c_str(), f.items.size(), f.lines.size(), f.lines.size() == 1 ? "" : "s",
-                double(f.inner_cross), p.note.empty() ? "" : "\n    ", p.note.c_str());
+    std::printf("  %s: %zu gauges in %zu line%s, %g px high%s%s\n", p.name.c_str(), f.items.size(), f.lines.size(),
+                f.lines.size() == 1 ? "" : "s", double(f.inner_cross), p.note.empty() ? "" : "\n    ", p.note.c_str());
     std::size_t i = 0;
     for (const auto &line : f.lines) {
         std::printf("   ");
         for (std::uint32_t k = 0; k < line.count; k++, i++)
             std::printf(" %s %.1f", p.gauges[i].label.c_str(), double(f.items[i].main_size));
-        std::printf("  (%.1f px free before flexing, %u round%s of it)\n", line.free / 64.0, line.rounds, line.rounds == 1 ? "" : "s");
+        std::printf("  (%.1f px free before flexing, %u round%s of it)\n", line.free / 64.0, line.rounds,
+                    line.rounds == 1 ? "" : "s");
     }
     print_overflow(p);
 }
@@ -139,15 +145,19 @@ void draw_gauge(std::ofstream &svg, const gauge &g, float value, const fratolive
     svg << "<rect x='" << left << "' y='" << top << "' width='" << b.main_size << "' height='" << b.cross_size
         << "' rx='6' fill='#1d2733' stroke='#3c5066'/>\n";
     if (g.kind == "bar")
-        svg << "<rect x='" << left + 8 << "' y='" << top + b.cross_size - 12 << "' width='" << (b.main_size - 16) * value
-            << "' height='6' rx='3' fill='#4fb3ff'/>\n";
+        svg << "<rect x='" << left + 8 << "' y='" << top + b.cross_size - 12 << "' width='"
+            << (b.main_size - 16) * value << "' height='6' rx='3' fill='#4fb3ff'/>\n";
     if (g.kind == "dial")
-        svg << "<circle cx='" << middle << "' cy='" << top + 60 << "' r='32' fill='none' stroke='#4fb3ff' stroke-width='4'/>\n";
+        svg << "<circle cx='" << middle << "' cy='" << top + 60
+            << "' r='32' fill='none' stroke='#4fb3ff' stroke-width='4'/>\n";
     if (g.kind == "lamp" || g.kind == "icon")
-        svg << "<circle cx='" << middle << "' cy='" << top + 30 << "' r='5' fill='" << (value > 0 ? "#ffb347" : "#3c5066") << "'/>\n";
+        svg << "<circle cx='" << middle << "' cy='" << top + 30 << "' r='5' fill='"
+            << (value > 0 ? "#ffb347" : "#3c5066") << "'/>\n";
     svg << "<text x='" << middle << "' y='" << top + 17 << "'>" << g.label << "</text>\n";
-    if (g.kind == "dial") svg << "<text x='" << middle << "' y='" << top + 65 << "'>" << number_text(value) << "</text>\n";
-    if (g.kind == "text") svg << "<text x='" << middle << "' y='" << top + 33 << "' fill='#4fb3ff'>" << number_text(value) << "</text>\n";
+    if (g.kind == "dial")
+        svg << "<text x='" << middle << "' y='" << top + 65 << "'>" << number_text(value) << "</text>\n";
+    if (g.kind == "text")
+        svg << "<text x='" << middle << "' y='" << top + 33 << "' fill='#4fb3ff'>" << number_text(value) << "</text>\n";
 }
 
 bool draw(const std::vector<wall_panel> &wall, const std::string &path) {
@@ -156,13 +166,16 @@ bool draw(const std::vector<wall_panel> &wall, const std::string &path) {
     for (const auto &p : wall) height += head + p.panel.last().inner_cross + pad;
     std::ofstream svg(path);
     svg << "<svg xmlns='http://www.w3.org/2000/svg' viewBox='0 0 " << width << ' ' << height
-        << "' font-family='sans-serif' font-size='12' text-anchor='middle' fill='#d8e2ec'>\n<rect width='100%' height='100%' fill='#0f151c'/>\n";
+        << "' font-family='sans-serif' font-size='12' text-anchor='middle' fill='#d8e2ec'>\n<rect width='100%' "
+           "height='100%' fill='#0f151c'/>\n";
     float y = pad;
     for (const auto &p : wall) {
-        svg << "<text x='" << pad << "' y='" << y + 18 << "' font-size='16' text-anchor='start'>" << p.name << "</text>\n<text x='" << width - pad
-            << "' y='" << y + 18 << "' text-anchor='end' fill='#ff6b6b'>" << p.note << "</text>\n";
+        svg << "<text x='" << pad << "' y='" << y + 18 << "' font-size='16' text-anchor='start'>" << p.name
+            << "</text>\n<text x='" << width - pad << "' y='" << y + 18 << "' text-anchor='end' fill='#ff6b6b'>"
+            << p.note << "</text>\n";
         y += head;
-        svg << "<rect x='" << pad << "' y='" << y << "' width='" << width - 2 * pad << "' height='" << p.panel.last().inner_cross << "' fill='#141c25'/>\n";
+        svg << "<rect x='" << pad << "' y='" << y << "' width='" << width - 2 * pad << "' height='"
+            << p.panel.last().inner_cross << "' fill='#141c25'/>\n";
         const auto boxes = fratolivem::boxes(p.panel.last());
         for (std::size_t i = 0; i < boxes.size(); i++) draw_gauge(svg, p.gauges[i], p.shown[i], boxes[i], pad, y);
         y += p.panel.last().inner_cross + pad;

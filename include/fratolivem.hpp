@@ -1,4 +1,5 @@
-// Fratolivem for C++17: the calls of fratolivem.h over spans, items as columns, refusals as an enum with words, and scratch space that is kept.
+// Fratolivem for C++17: the calls of fratolivem.h over spans, items as columns, refusals as an enum with words, and
+// scratch space that is kept.
 #ifndef FRATOLIVEM_HPP
 #define FRATOLIVEM_HPP
 
@@ -13,7 +14,8 @@
 
 namespace fratolivem {
 
-// C++17 has no std::span. This one is made of anything that has data() and size(), or of a pointer and a size (a C array as {cells, n}).
+// C++17 has no std::span. This one is made of anything that has data() and size(), or of a pointer and a size (a C
+// array as {cells, n}).
 template <class T>
 class span {
 public:
@@ -62,7 +64,8 @@ inline std::string place_words(std::uint32_t where, std::uint32_t place, const c
 
 // A refusal and its place in words; "accepted" where there is none.
 inline std::string refusal_text(refusal why, std::uint32_t where, std::uint32_t place, const char *counted = "item") {
-    return why == refusal::none ? std::string(words(why)) : std::string(words(why)) + ", at " + place_words(where, place, counted);
+    return why == refusal::none ? std::string(words(why))
+                                : std::string(words(why)) + ", at " + place_words(where, place, counted);
 }
 
 // The answer of a call over lines. It is true where the input was accepted; else no lent cell was changed.
@@ -99,8 +102,8 @@ struct [[nodiscard]] limit : fratolivem_limit {
     std::string text() const { return refusal_text(why(), where, place); }
 };
 
-inline limit break_limit(bool known_is_definite, bool main_is_definite, bool is_row, space available, bound minimum = {},
-                         bound maximum = {}) {
+inline limit break_limit(bool known_is_definite, bool main_is_definite, bool is_row, space available,
+                         bound minimum = {}, bound maximum = {}) {
     return {fratolivem_break_limit(known_is_definite, main_is_definite, is_row, available.kind, available.pixels,
                                    minimum.given, minimum.pixels, maximum.given, maximum.pixels)};
 }
@@ -109,16 +112,17 @@ inline answer greedy(space limit, float gap, span<const float> sizes, span<std::
     return {fratolivem_greedy(limit.kind, limit.pixels, gap, sizes.data(), sizes.size(), counts.data(), counts.size())};
 }
 
-// Balanced breaking that owns its work cells and keeps them between calls: a frame that breaks many lists allocates once (4 MB for 1,024
-// items; std::bad_alloc where there is none). One for each thread.
+// Balanced breaking that owns its work cells and keeps them between calls: a frame that breaks many lists allocates
+// once (4 MB for 1,024 items; std::bad_alloc where there is none). One for each thread.
 class balancer {
 public:
-    answer operator()(space limit, float gap, std::uint32_t minimum, span<const float> sizes, span<std::uint32_t> counts) {
+    answer operator()(space limit, float gap, std::uint32_t minimum, span<const float> sizes,
+                      span<std::uint32_t> counts) {
         const std::size_t n = sizes.size();
         if (work_.size() < fratolivem_work_cells(n)) work_.resize(fratolivem_work_cells(n));
         if (sums_.size() < fratolivem_sum_cells(n)) sums_.resize(fratolivem_sum_cells(n));
-        return {fratolivem_balanced(limit.kind, limit.pixels, gap, minimum, sizes.data(), n, counts.data(), counts.size(),
-                                    work_.data(), work_.size(), sums_.data(), sums_.size())};
+        return {fratolivem_balanced(limit.kind, limit.pixels, gap, minimum, sizes.data(), n, counts.data(),
+                                    counts.size(), work_.data(), work_.size(), sums_.data(), sums_.size())};
     }
 
 private:
@@ -128,8 +132,8 @@ private:
 
 // ---- the whole pass
 
-// A container and an item, absent numbers and auto margins as none. The defaults are CSS's (a row that does not wrap, items that do not grow), but for
-// the minima, which are 0.
+// A container and an item, absent numbers and auto margins as none. The defaults are CSS's (a row that does not wrap,
+// items that do not grow), but for the minima, which are 0.
 struct container : fratolivem_container {
     container(float inner_main_px, float gap_main_px, space limit_px) : fratolivem_container() {
         inner_main = inner_main_px;
@@ -189,8 +193,8 @@ struct [[nodiscard]] passed : fratolivem_passed {
     std::string text() const { return refusal_text(why(), where, place); }
 };
 
-// A panel of a wall: lays items out, owns the scratch space that this takes, and keeps its last good frame. A refusal leaves that frame as it
-// was, so that a panel whose numbers go wrong shows what it showed before. One for each thread.
+// A panel of a wall: lays items out, owns the scratch space that this takes, and keeps its last good frame. A refusal
+// leaves that frame as it was, so that a panel whose numbers go wrong shows what it showed before. One for each thread.
 class panel {
 public:
     passed lay(const fratolivem_container &c, span<const fratolivem_item> items) {
@@ -216,7 +220,8 @@ private:
     }
     void keep(const fratolivem_container &c, const passed &p, std::size_t n) {
         const auto of = [&](std::size_t list, std::size_t i) { return placed_[list * n + i]; };
-        // Both lists have their room before either is written: where there is no memory for it, the last frame stays whole.
+        // Both lists have their room before either is written: where there is no memory for it, the last frame stays
+        // whole.
         frame_.items.reserve(n), frame_.lines.reserve(p.lines);
         frame_.items.resize(n), frame_.lines.resize(p.lines);
         for (std::size_t i = 0; i < n; i++)
@@ -240,8 +245,8 @@ struct box {
     float main, cross, main_size, cross_size;
 };
 
-// The boxes of a frame: adds up the steps, the sizes and the margins, from the last line where wrapping is reversed, and from a line's last item
-// where the direction is.
+// The boxes of a frame: adds up the steps, the sizes and the margins, from the last line where wrapping is reversed,
+// and from a line's last item where the direction is.
 inline std::vector<box> boxes(const frame &f) {
     const bool items_reversed = f.direction == FRATOLIVEM_ROW_REVERSE || f.direction == FRATOLIVEM_COLUMN_REVERSE;
     const bool lines_reversed = f.wrap == FRATOLIVEM_WRAP_REVERSE || f.wrap == FRATOLIVEM_BALANCE_REVERSE;
@@ -266,7 +271,8 @@ inline std::vector<box> boxes(const frame &f) {
     return out;
 }
 
-// The items that flexing takes, a column for each number: all of one length. fratolivem_flex_line says what each of them is.
+// The items that flexing takes, a column for each number: all of one length. fratolivem_flex_line says what each of
+// them is.
 struct flex_columns {
     span<const float> base, minimum, maximum;
     span<const std::uint32_t> has_maximum;
@@ -283,28 +289,30 @@ struct [[nodiscard]] flexed : fratolivem_flexed {
 };
 
 inline flexed flex_line(float inner, float gap, const flex_columns &items, span<float> targets) {
-    return {fratolivem_flex_line(inner, gap, items.base.data(), items.base.size(), items.minimum.data(), items.minimum.size(),
-                                 items.maximum.data(), items.maximum.size(), items.has_maximum.data(), items.has_maximum.size(),
-                                 items.edges.data(), items.edges.size(), items.grow.data(), items.grow.size(), items.shrink.data(),
-                                 items.shrink.size(), items.start.data(), items.start.size(), items.end.data(), items.end.size(),
-                                 items.auto_start.data(), items.auto_start.size(), items.auto_end.data(), items.auto_end.size(),
-                                 targets.data(), targets.size())};
+    return {fratolivem_flex_line(inner, gap, items.base.data(), items.base.size(), items.minimum.data(),
+                                 items.minimum.size(), items.maximum.data(), items.maximum.size(),
+                                 items.has_maximum.data(), items.has_maximum.size(), items.edges.data(),
+                                 items.edges.size(), items.grow.data(), items.grow.size(), items.shrink.data(),
+                                 items.shrink.size(), items.start.data(), items.start.size(), items.end.data(),
+                                 items.end.size(), items.auto_start.data(), items.auto_start.size(),
+                                 items.auto_end.data(), items.auto_end.size(), targets.data(), targets.size())};
 }
 
-inline answer flex_lines(float inner, float gap, span<const std::uint32_t> counts, const flex_columns &items, span<float> targets,
-                         span<std::int32_t> free, span<std::uint32_t> rounds) {
-    return {fratolivem_flex_lines(inner, gap, counts.data(), counts.size(), items.base.data(), items.base.size(), items.minimum.data(),
-                                  items.minimum.size(), items.maximum.data(), items.maximum.size(), items.has_maximum.data(),
-                                  items.has_maximum.size(), items.edges.data(), items.edges.size(), items.grow.data(), items.grow.size(),
-                                  items.shrink.data(), items.shrink.size(), items.start.data(), items.start.size(), items.end.data(),
-                                  items.end.size(), items.auto_start.data(), items.auto_start.size(), items.auto_end.data(),
-                                  items.auto_end.size(), targets.data(), targets.size(), free.data(), free.size(), rounds.data(),
-                                  rounds.size())};
+inline answer flex_lines(float inner, float gap, span<const std::uint32_t> counts, const flex_columns &items,
+                         span<float> targets, span<std::int32_t> free, span<std::uint32_t> rounds) {
+    return {fratolivem_flex_lines(
+        inner, gap, counts.data(), counts.size(), items.base.data(), items.base.size(), items.minimum.data(),
+        items.minimum.size(), items.maximum.data(), items.maximum.size(), items.has_maximum.data(),
+        items.has_maximum.size(), items.edges.data(), items.edges.size(), items.grow.data(), items.grow.size(),
+        items.shrink.data(), items.shrink.size(), items.start.data(), items.start.size(), items.end.data(),
+        items.end.size(), items.auto_start.data(), items.auto_start.size(), items.auto_end.data(),
+        items.auto_end.size(), targets.data(), targets.size(), free.data(), free.size(), rounds.data(), rounds.size())};
 }
 
 // ---- placing
 
-// The items that placing along a line takes, a column for each number: all of one length. fratolivem_place_main says what each of them is.
+// The items that placing along a line takes, a column for each number: all of one length. fratolivem_place_main says
+// what each of them is.
 struct main_columns {
     span<const float> targets, start, end;
     span<const std::uint32_t> auto_start, auto_end;
@@ -325,8 +333,8 @@ struct across_columns : cross_columns {
 // A container's cross axis, absent numbers as none.
 struct cross : fratolivem_cross {
     cross(std::uint32_t wrap_code, bound inner_px, float gap_px, bound minimum_px = {}, bound maximum_px = {})
-        : fratolivem_cross{inner_px.pixels,   inner_px.given,   minimum_px.pixels, minimum_px.given,
-                           maximum_px.pixels, maximum_px.given, gap_px,            wrap_code} {}
+        : fratolivem_cross{inner_px.pixels,  inner_px.given, minimum_px.pixels, minimum_px.given, maximum_px.pixels,
+                           maximum_px.given, gap_px,         wrap_code} {}
 };
 
 // The answer of line_size: a line's cross size.
@@ -343,38 +351,40 @@ struct [[nodiscard]] lines_placed : fratolivem_sized {
     std::string text() const { return refusal_text(why(), where, place, "line"); }
 };
 
-inline answer place_main(float inner, float gap, std::uint32_t justify_content, bool reversed, const main_columns &items, span<float> offsets,
-                         span<float> used_start, span<float> used_end) {
-    return {fratolivem_place_main(inner, gap, justify_content, reversed, items.targets.data(), items.targets.size(), items.start.data(),
-                                  items.start.size(), items.end.data(), items.end.size(), items.auto_start.data(), items.auto_start.size(),
-                                  items.auto_end.data(), items.auto_end.size(), offsets.data(), offsets.size(), used_start.data(),
+inline answer place_main(float inner, float gap, std::uint32_t justify_content, bool reversed,
+                         const main_columns &items, span<float> offsets, span<float> used_start, span<float> used_end) {
+    return {fratolivem_place_main(inner, gap, justify_content, reversed, items.targets.data(), items.targets.size(),
+                                  items.start.data(), items.start.size(), items.end.data(), items.end.size(),
+                                  items.auto_start.data(), items.auto_start.size(), items.auto_end.data(),
+                                  items.auto_end.size(), offsets.data(), offsets.size(), used_start.data(),
                                   used_start.size(), used_end.data(), used_end.size())};
 }
 
 inline sized line_size(const fratolivem_cross &container, const cross_columns &items) {
-    return {fratolivem_line_size(container, items.measured.data(), items.measured.size(), items.minimum.data(), items.minimum.size(),
-                                 items.maximum.data(), items.maximum.size(), items.has_maximum.data(), items.has_maximum.size(),
-                                 items.edges.data(), items.edges.size(), items.start.data(), items.start.size(), items.end.data(),
-                                 items.end.size(), items.auto_start.data(), items.auto_start.size(), items.auto_end.data(),
-                                 items.auto_end.size())};
+    return {fratolivem_line_size(container, items.measured.data(), items.measured.size(), items.minimum.data(),
+                                 items.minimum.size(), items.maximum.data(), items.maximum.size(),
+                                 items.has_maximum.data(), items.has_maximum.size(), items.edges.data(),
+                                 items.edges.size(), items.start.data(), items.start.size(), items.end.data(),
+                                 items.end.size(), items.auto_start.data(), items.auto_start.size(),
+                                 items.auto_end.data(), items.auto_end.size())};
 }
 
-inline lines_placed place_lines(const fratolivem_cross &container, std::uint32_t align_content, span<const float> lines, span<float> sizes,
-                                span<float> offsets) {
-    return {fratolivem_place_lines(container, align_content, lines.data(), lines.size(), sizes.data(), sizes.size(), offsets.data(),
-                                   offsets.size())};
+inline lines_placed place_lines(const fratolivem_cross &container, std::uint32_t align_content, span<const float> lines,
+                                span<float> sizes, span<float> offsets) {
+    return {fratolivem_place_lines(container, align_content, lines.data(), lines.size(), sizes.data(), sizes.size(),
+                                   offsets.data(), offsets.size())};
 }
 
-inline answer place_across(float line, bool reversed, const across_columns &items, span<float> sizes, span<float> used_start,
-                           span<float> used_end, span<float> offsets) {
-    return {fratolivem_place_across(line, reversed, items.measured.data(), items.measured.size(), items.minimum.data(),
-                                    items.minimum.size(), items.maximum.data(), items.maximum.size(), items.has_maximum.data(),
-                                    items.has_maximum.size(), items.edges.data(), items.edges.size(), items.start.data(),
-                                    items.start.size(), items.end.data(), items.end.size(), items.auto_start.data(),
-                                    items.auto_start.size(), items.auto_end.data(), items.auto_end.size(), items.align_self.data(),
-                                    items.align_self.size(), items.auto_size.data(), items.auto_size.size(), sizes.data(), sizes.size(),
-                                    used_start.data(), used_start.size(), used_end.data(), used_end.size(), offsets.data(),
-                                    offsets.size())};
+inline answer place_across(float line, bool reversed, const across_columns &items, span<float> sizes,
+                           span<float> used_start, span<float> used_end, span<float> offsets) {
+    return {fratolivem_place_across(
+        line, reversed, items.measured.data(), items.measured.size(), items.minimum.data(), items.minimum.size(),
+        items.maximum.data(), items.maximum.size(), items.has_maximum.data(), items.has_maximum.size(),
+        items.edges.data(), items.edges.size(), items.start.data(), items.start.size(), items.end.data(),
+        items.end.size(), items.auto_start.data(), items.auto_start.size(), items.auto_end.data(),
+        items.auto_end.size(), items.align_self.data(), items.align_self.size(), items.auto_size.data(),
+        items.auto_size.size(), sizes.data(), sizes.size(), used_start.data(), used_start.size(), used_end.data(),
+        used_end.size(), offsets.data(), offsets.size())};
 }
 
 } // namespace fratolivem

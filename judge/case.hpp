@@ -53,18 +53,37 @@ struct Cell {
     const char *name;
     bool is_float;
 };
-constexpr Cell breaking_cells[] = {{"known", false},  {"main", false},       {"row", false},    {"kind", false},
-                                   {"available", true}, {"has-minimum", false}, {"minimum", true}, {"has-maximum", false},
-                                   {"maximum", true}, {"gap", true},         {"least-lines", false}};
-constexpr Cell container_cells[] = {{"inner", true},      {"gap", true},           {"kind", false},         {"limit", true},
-                                    {"least-lines", false}, {"direction", false},  {"wrap", false},         {"justify", false},
-                                    {"align", false},     {"cross", true},         {"has-cross", false},    {"cross-min", true},
-                                    {"has-cross-min", false}, {"cross-max", true}, {"has-cross-max", false}, {"cross-gap", true}};
-constexpr Cell item_cells[] = {{"base", true},        {"min", true},         {"max", true},        {"edges", true},      {"grow", true},
-                               {"shrink", true},      {"start", true},       {"end", true},        {"measured", true},   {"cross-min", true},
-                               {"cross-max", true},   {"cross-edges", true}, {"cross-start", true}, {"cross-end", true}, {"has-max", false},
-                               {"auto-start", false}, {"auto-end", false},   {"has-cross-max", false}, {"auto-cross-start", false},
-                               {"auto-cross-end", false}, {"self", false},   {"auto-size", false}};
+constexpr Cell breaking_cells[] = {{"known", false},  {"main", false},        {"row", false},
+                                   {"kind", false},   {"available", true},    {"has-minimum", false},
+                                   {"minimum", true}, {"has-maximum", false}, {"maximum", true},
+                                   {"gap", true},     {"least-lines", false}};
+constexpr Cell container_cells[] = {
+    {"inner", true},          {"gap", true},        {"kind", false},          {"limit", true},
+    {"least-lines", false},   {"direction", false}, {"wrap", false},          {"justify", false},
+    {"align", false},         {"cross", true},      {"has-cross", false},     {"cross-min", true},
+    {"has-cross-min", false}, {"cross-max", true},  {"has-cross-max", false}, {"cross-gap", true}};
+constexpr Cell item_cells[] = {{"base", true},
+                               {"min", true},
+                               {"max", true},
+                               {"edges", true},
+                               {"grow", true},
+                               {"shrink", true},
+                               {"start", true},
+                               {"end", true},
+                               {"measured", true},
+                               {"cross-min", true},
+                               {"cross-max", true},
+                               {"cross-edges", true},
+                               {"cross-start", true},
+                               {"cross-end", true},
+                               {"has-max", false},
+                               {"auto-start", false},
+                               {"auto-end", false},
+                               {"has-cross-max", false},
+                               {"auto-cross-start", false},
+                               {"auto-cross-end", false},
+                               {"self", false},
+                               {"auto-size", false}};
 static_assert(sizeof(Breaking) == sizeof breaking_cells / sizeof(Cell) * 4, "a cell is 4 bytes");
 static_assert(sizeof(model::Container) == sizeof container_cells / sizeof(Cell) * 4, "a cell is 4 bytes");
 static_assert(sizeof(model::Item) == sizeof item_cells / sizeof(Cell) * 4, "a cell is 4 bytes");
@@ -74,7 +93,9 @@ inline uint32_t cell_of(const void *record, std::size_t i) {
     std::memcpy(&bits, static_cast<const char *>(record) + 4 * i, 4);
     return bits;
 }
-inline void set_cell(void *record, std::size_t i, uint32_t bits) { std::memcpy(static_cast<char *>(record) + 4 * i, &bits, 4); }
+inline void set_cell(void *record, std::size_t i, uint32_t bits) {
+    std::memcpy(static_cast<char *>(record) + 4 * i, &bits, 4);
+}
 
 inline float float_of(uint32_t bits) {
     float x;
@@ -93,7 +114,9 @@ std::string record_text(const void *record, const Cell (&cells)[N]) {
     std::string all;
     for (std::size_t i = 0; i < N; i++) {
         const uint32_t bits = cell_of(record, i);
-        if (bits) all += std::string(" ") + cells[i].name + "=" + (cells[i].is_float ? number_text(float_of(bits)) : std::to_string(bits));
+        if (bits)
+            all += std::string(" ") + cells[i].name + "=" +
+                   (cells[i].is_float ? number_text(float_of(bits)) : std::to_string(bits));
     }
     return all;
 }
@@ -152,15 +175,22 @@ inline bool read_case(const std::string &line, Case &c, Answer &a) {
         if (word == ";") {
             part = items;
             c.items.emplace_back();
-        } else if (word == ":") part = list;
-        else if (word == "=>") part = numbers;
-        else if (word == "/") part = counts;
-        else if (part == list) c.list.push_back(std::strtof(word.c_str(), nullptr));
-        else if (part == numbers) a.numbers.push_back(std::strtof(word.c_str(), nullptr));
-        else if (part == counts) a.counts.push_back(uint32_t(std::strtoul(word.c_str(), nullptr, 10)));
+        } else if (word == ":")
+            part = list;
+        else if (word == "=>")
+            part = numbers;
+        else if (word == "/")
+            part = counts;
+        else if (part == list)
+            c.list.push_back(std::strtof(word.c_str(), nullptr));
+        else if (part == numbers)
+            a.numbers.push_back(std::strtof(word.c_str(), nullptr));
+        else if (part == counts)
+            a.counts.push_back(uint32_t(std::strtoul(word.c_str(), nullptr, 10)));
         else if (part == items) {
             if (!read_cell(&c.items.back(), item_cells, word)) return false;
-        } else if (!(c.breaks() ? read_cell(&c.breaking, breaking_cells, word) : read_cell(&c.container, container_cells, word))) {
+        } else if (!(c.breaks() ? read_cell(&c.breaking, breaking_cells, word)
+                                : read_cell(&c.container, container_cells, word))) {
             return false;
         }
     }

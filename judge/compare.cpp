@@ -1,6 +1,7 @@
-// The library's answers beside those of the Rust's own text, stage by stage. Every difference must be one of the listed ones.
-//   compare SEED CASES            random cases of each stage, then all short ones
-//   compare SEED CASES sample     writes a sample of the Rust's answers for judge/replay
+// The library's answers beside those of the Rust's own text, stage by stage. Every difference must be one of the listed
+// ones.
+// compare SEED CASES            random cases of each stage, then all short ones
+// compare SEED CASES sample     writes a sample of the Rust's answers for judge/replay
 #include <algorithm>
 #include <chrono>
 #include <cinttypes>
@@ -69,7 +70,8 @@ Case shrunk(Case c, uint32_t set) {
         std::vector<uint32_t> values{0};
         if (is_float) {
             const float x = float_of(old);
-            for (float y : {1.0f, 2.0f, 3.0f, 4.0f, 10.0f, 20.0f, 100.0f, 0.5f, 0.25f, std::floor(x), x / 2, std::floor(x / 10) * 10, x - 1})
+            for (float y : {1.0f, 2.0f, 3.0f, 4.0f, 10.0f, 20.0f, 100.0f, 0.5f, 0.25f, std::floor(x), x / 2,
+                            std::floor(x / 10) * 10, x - 1})
                 values.push_back(model::bits(y));
             if (old < 0x00800000) values.push_back(1), values.push_back(old / 2);
         } else {
@@ -87,7 +89,8 @@ Case shrunk(Case c, uint32_t set) {
         for (std::size_t i = 0; i < c.items.size() && !again; i++) {
             Case tried = c;
             tried.items.erase(tried.items.begin() + long(i));
-            if (c.list.size() == c.items.size() && c.stage == Stage::main) tried.list.erase(tried.list.begin() + long(i));
+            if (c.list.size() == c.items.size() && c.stage == Stage::main)
+                tried.list.erase(tried.list.begin() + long(i));
             again = !tried.items.empty() && better(tried);
         }
         for (std::size_t i = 0; i < 16 && !again; i++) {
@@ -148,8 +151,9 @@ void compare(const Case &c) {
     const uint32_t set = same(us.answer, ways::answer(0, c)) ? ways::explanation(c, rust) : ways::unexplained;
     if (set == ways::unexplained) {
         if (++count.bad <= 5)
-            std::printf("UNEXPLAINED: %s\n  ours %s\n  Rust %s\n  ways %s\n", text_of(c).c_str(), text_of(us.answer).c_str(),
-                        text_of(rust).c_str(), text_of(ways::answer(ways::all_ways, c)).c_str());
+            std::printf("UNEXPLAINED: %s\n  ours %s\n  Rust %s\n  ways %s\n", text_of(c).c_str(),
+                        text_of(us.answer).c_str(), text_of(rust).c_str(),
+                        text_of(ways::answer(ways::all_ways, c)).c_str());
         return;
     }
     count.by_ways[set]++;
@@ -163,8 +167,8 @@ long report() {
         if (!count.made) continue;
         long differ = 0;
         for (const auto &entry : count.by_ways) differ += entry.second;
-        std::printf("%s: %ld cases, %ld refused, %ld equal, %ld differ as listed, %ld unexplained\n", stage_names[s], count.made, count.refused,
-                    count.equal, differ, count.bad);
+        std::printf("%s: %ld cases, %ld refused, %ld equal, %ld differ as listed, %ld unexplained\n", stage_names[s],
+                    count.made, count.refused, count.equal, differ, count.bad);
         std::vector<std::pair<long, uint32_t>> sorted;
         long each[ways::way_count] = {};
         for (const auto &entry : count.by_ways) {
@@ -172,8 +176,9 @@ long report() {
             for (int way = 0; way < ways::way_count; way++) each[way] += entry.first >> way & 1 ? entry.second : 0;
         }
         for (int way = 0; way < ways::way_count; way++)
-            if (each[way]) std::printf("  %s takes part in %ld (alone in %ld)\n", ways::way_names[way], each[way],
-                                       count.by_ways.count(1u << way) ? count.by_ways.at(1u << way) : 0);
+            if (each[way])
+                std::printf("  %s takes part in %ld (alone in %ld)\n", ways::way_names[way], each[way],
+                            count.by_ways.count(1u << way) ? count.by_ways.at(1u << way) : 0);
         bad += count.bad;
     }
     return bad;
@@ -186,8 +191,9 @@ void print_smallest() {
             std::printf("smallest of %s: none met\n", ways::way_names[way]);
             continue;
         }
-        std::printf("smallest of %s (as %s): %s\n  here:     %s\n  the Rust: %s\n", ways::way_names[way], ways::names_of(s.set).c_str(),
-                    text_of(s.c).c_str(), text_of(ours::answer(s.c).answer).c_str(), text_of(theirs::answer(s.c)).c_str());
+        std::printf("smallest of %s (as %s): %s\n  here:     %s\n  the Rust: %s\n", ways::way_names[way],
+                    ways::names_of(s.set).c_str(), text_of(s.c).c_str(), text_of(ours::answer(s.c).answer).c_str(),
+                    text_of(theirs::answer(s.c)).c_str());
     }
 }
 
@@ -196,8 +202,8 @@ void known_differences() {
     uint32_t made[8];
     judge_breaking b{1, 1, 1, FRATOLIVEM_MAX_CONTENT, 0.0f, 0, 0.0f, 0, 0.0f, 0.0f, 1};
     judge_list *none = judge_items(nullptr, 0);
-    std::printf("no items under max-content: the Rust makes %zu line(s) greedily, %zu balanced\n", judge_lines(0, &b, none, made),
-                judge_lines(1, &b, none, made));
+    std::printf("no items under max-content: the Rust makes %zu line(s) greedily, %zu balanced\n",
+                judge_lines(0, &b, none, made), judge_lines(1, &b, none, made));
     judge_drop(none);
     // D13. Balanced, a list with a NaN meets a debug assertion of the crate's, with which it is built here.
     const auto divided = [&](const char *name, uint32_t balanced, const std::vector<float> &sizes) {
@@ -206,13 +212,15 @@ void known_differences() {
         judge_list *items = judge_items(sizes.data(), sizes.size());
         const std::size_t lines = judge_lines(balanced, &b, items, cells.data());
         judge_drop(items);
-        std::printf("%s, limit 150: the Rust's %s lines are %zu, the first of %u\n", name, balanced ? "balanced" : "greedy", lines, cells[0]);
+        std::printf("%s, limit 150: the Rust's %s lines are %zu, the first of %u\n", name,
+                    balanced ? "balanced" : "greedy", lines, cells[0]);
     };
     divided("NaN", 0, {NAN});
     divided("50, NaN, 50, 10", 0, {50, NAN, 50, 10});
     for (uint32_t balanced : {0u, 1u}) {
         divided("0.01", balanced, {0.01f}), divided("262144.03125", balanced, {262144.03125f});
-        divided("1,025 items of 1", balanced, std::vector<float>(1025, 1.0f)), divided("200000, 200000", balanced, {200000, 200000});
+        divided("1,025 items of 1", balanced, std::vector<float>(1025, 1.0f)),
+            divided("200000, 200000", balanced, {200000, 200000});
     }
     // D10: a host of ours cannot say `safe stretch`; code 11 says it to the Rust alone.
     judge_container c{};
@@ -248,7 +256,8 @@ constexpr const char *fixed_cases[] = {
     "flex inner=300 gap=20 ; base=100 grow=0.125 shrink=1 ; base=100 shrink=1",
     "flex inner=4 gap=3 ; ; grow=0.5",
     "flex inner=0.015625 ; grow=1.00002e-40",
-    "flex inner=0.390625 ; base=0.015625 shrink=4.9521347e-08 start=0.0625 ; base=1 max=0.046875 shrink=0.166666672 start=0.078125 has-max=1 ; "
+    "flex inner=0.390625 ; base=0.015625 shrink=4.9521347e-08 start=0.0625 ; base=1 max=0.046875 shrink=0.166666672 "
+    "start=0.078125 has-max=1 ; "
     "base=0.5 shrink=3 ; min=0.078125 end=0.109375",
     "flex inner=150 ; base=100 max=50 has-max=1 shrink=1 ; base=100 shrink=1",
     "flex inner=50 ; base=100 edges=80 shrink=1",
@@ -285,13 +294,16 @@ void all_short() {
 Case bare(Case c) {
     model::Container k;
     k.limit_kind = 0;
-    const bool main = c.stage == Stage::main, across = c.stage == Stage::size || c.stage == Stage::lines || c.stage == Stage::across;
+    const bool main = c.stage == Stage::main,
+               across = c.stage == Stage::size || c.stage == Stage::lines || c.stage == Stage::across;
     if (c.stage == Stage::flex || main) k.inner_main = c.container.inner_main, k.gap_main = c.container.gap_main;
     if (main) k.justify_content = c.container.justify_content, k.direction = c.container.direction;
     if (across) {
         const model::Container &old = c.container;
-        k.wrap = old.wrap, k.inner_cross = old.inner_cross, k.has_inner_cross = old.has_inner_cross, k.minimum_cross = old.minimum_cross;
-        k.has_minimum_cross = old.has_minimum_cross, k.maximum_cross = old.maximum_cross, k.has_maximum_cross = old.has_maximum_cross;
+        k.wrap = old.wrap, k.inner_cross = old.inner_cross, k.has_inner_cross = old.has_inner_cross,
+        k.minimum_cross = old.minimum_cross;
+        k.has_minimum_cross = old.has_minimum_cross, k.maximum_cross = old.maximum_cross,
+        k.has_maximum_cross = old.has_maximum_cross;
         if (c.stage == Stage::lines) k.gap_cross = old.gap_cross, k.align_content = old.align_content;
     }
     if (c.stage != Stage::pass) c.container = k;
@@ -312,10 +324,12 @@ void write_case(const Case &c) {
     std::printf("%s\n", ways::sample_line(c, rust, set).c_str());
 }
 
-// The fixed ones; then out of `cases` random ones of each stage every way that is met, and as many others as are asked for.
+// The fixed ones; then out of `cases` random ones of each stage every way that is met, and as many others as are asked
+// for.
 void write_sample(uint64_t seed, long cases) {
     std::printf("# The Rust's own answers, made by: judge/sample SOURCE %" PRIu64 " %ld\n", seed, cases);
-    std::printf("# stage container ; item ; .. : list => numbers / counts # the listed differences that it shows, if any\n");
+    std::printf(
+        "# stage container ; item ; .. : list => numbers / counts # the listed differences that it shows, if any\n");
     constexpr long wanted[stage_count] = {120, 250, 500, 240, 100, 260, 190, 120};
     for (const char *text : fixed_cases) {
         write_case(fixed_case(text));

@@ -1,5 +1,6 @@
-// hostile SEED CALLS: any bits in every argument of every exported call, on lists with canaries or forbidden pages beside them.
-// Writes each call with the number and place that it answered, for judge/refusals.py; what a refusal must leave alone is looked at here.
+// hostile SEED CALLS: any bits in every argument of every exported call, on lists with canaries or forbidden pages
+// beside them. Writes each call with the number and place that it answered, for judge/refusals.py; what a refusal must
+// leave alone is looked at here.
 #include <array>
 #include <cinttypes>
 
@@ -75,7 +76,8 @@ float any_float() {
     float x = edges[below(9)];
     switch (below(6)) {
     case 0: return float_of(uint32_t(chance()));
-    case 1: return float_of(0x7f800000u + uint32_t(below(3)) * uint32_t(below(0x400000)) + (one_in(2) ? 0x80000000u : 0));
+    case 1:
+        return float_of(0x7f800000u + uint32_t(below(3)) * uint32_t(below(0x400000)) + (one_in(2) ? 0x80000000u : 0));
     case 2: return float_of(uint32_t(below(3)) + (one_in(2) ? 0x80000000u : 0)); // 0, -0.0, the least
     case 3: x = std::nextafterf(x, one_in(2) ? 3e38f : -3e38f); break;
     case 4: x = float(below(1 << 24)) / 64.0f; break;
@@ -99,7 +101,8 @@ int damages() { return std::array{0, 0, 1, 1, 1, 2, 3, 8}[below(8)]; }
 
 std::size_t any_count(std::size_t small) { return one_in(150) ? 1020 + below(8) : small; }
 
-// Cells to lend for a list that needs `named`: those, more, or too few. Calls with more lists are seldomer wrong about each.
+// Cells to lend for a list that needs `named`: those, more, or too few. Calls with more lists are seldomer wrong about
+// each.
 uint64_t room_odds = 24;
 std::size_t room(std::size_t named) {
     switch (room_odds ? below(room_odds) : 99) {
@@ -114,9 +117,11 @@ std::size_t room(std::size_t named) {
 Stand any_stand() { return std::array{Stand::between_canaries, Stand::before_a_page, Stand::after_a_page}[below(3)]; }
 
 constexpr std::size_t most = 1200;
-Lent<float> in_floats[9] = {Lent<float>(most), Lent<float>(most), Lent<float>(most), Lent<float>(most), Lent<float>(most),
-                            Lent<float>(most), Lent<float>(most), Lent<float>(most), Lent<float>(most)};
-Lent<uint32_t> in_codes[5] = {Lent<uint32_t>(most), Lent<uint32_t>(most), Lent<uint32_t>(most), Lent<uint32_t>(most), Lent<uint32_t>(most)};
+Lent<float> in_floats[9] = {Lent<float>(most), Lent<float>(most), Lent<float>(most),
+                            Lent<float>(most), Lent<float>(most), Lent<float>(most),
+                            Lent<float>(most), Lent<float>(most), Lent<float>(most)};
+Lent<uint32_t> in_codes[5] = {Lent<uint32_t>(most), Lent<uint32_t>(most), Lent<uint32_t>(most), Lent<uint32_t>(most),
+                              Lent<uint32_t>(most)};
 Lent<float> out_floats[3] = {Lent<float>(9 * most), Lent<float>(3 * most), Lent<float>(most)};
 Lent<uint32_t> out_codes[3] = {Lent<uint32_t>(1024 * 1024 + 5 * most), Lent<uint32_t>(most), Lent<uint32_t>(most)};
 Lent<int32_t> out_ints(most);
@@ -136,10 +141,11 @@ void try_break_limit(Draw &draw) {
         const std::size_t at = below(9);
         damage_cell(&b, at, breaking_cells[at]);
     }
-    const auto a = fratolivem_break_limit(b.known_is_definite, b.main_is_definite, b.is_row, b.available_kind, b.available, b.has_minimum,
-                                          b.minimum, b.has_maximum, b.maximum);
+    const auto a = fratolivem_break_limit(b.known_is_definite, b.main_is_definite, b.is_row, b.available_kind,
+                                          b.available, b.has_minimum, b.minimum, b.has_maximum, b.maximum);
     const std::string line = Text("break_limit").cells(&b, 9, breaking_cells).answered(a.number, a.where, a.place);
-    expect(a.number == 0 || (a.kind == FRATOLIVEM_NO_LIMIT && model::bits(a.limit) == 0), "a refused limit has a value", line);
+    expect(a.number == 0 || (a.kind == FRATOLIVEM_NO_LIMIT && model::bits(a.limit) == 0), "a refused limit has a value",
+           line);
 }
 
 struct BreakingCall {
@@ -172,7 +178,8 @@ bool divided(const BreakingCall &b, bool balanced, uint32_t lines) {
     const model::Items items(b.kind, b.limit, b.gap, b.sizes, balanced);
     const model::Counts counts = balanced ? model::balanced(items, b.minimum) : model::greedy(items);
     bool same = lines == counts.size();
-    for (std::size_t i = 0; i < b.sizes.size(); i++) same = same && out_codes[1].data()[i] == (i < counts.size() ? counts[i] : 0);
+    for (std::size_t i = 0; i < b.sizes.size(); i++)
+        same = same && out_codes[1].data()[i] == (i < counts.size() ? counts[i] : 0);
     return same;
 }
 
@@ -180,8 +187,15 @@ void try_greedy(Draw &draw) {
     const BreakingCall b = breaking_call(draw);
     const std::size_t n = b.sizes.size();
     in_floats[0].lend(b.sizes, any_stand()), out_codes[1].lend(room(n), any_stand());
-    const auto a = fratolivem_greedy(b.kind, b.limit, b.gap, in_floats[0].data(), n, out_codes[1].data(), out_codes[1].size());
-    const std::string line = Text("greedy").u(b.kind).f(b.limit).f(b.gap).list(b.sizes).u(out_codes[1].size()).answered(a.number, a.where, a.place);
+    const auto a =
+        fratolivem_greedy(b.kind, b.limit, b.gap, in_floats[0].data(), n, out_codes[1].data(), out_codes[1].size());
+    const std::string line = Text("greedy")
+                                 .u(b.kind)
+                                 .f(b.limit)
+                                 .f(b.gap)
+                                 .list(b.sizes)
+                                 .u(out_codes[1].size())
+                                 .answered(a.number, a.where, a.place);
     expect(in_floats[0].kept() && kept(out_codes[1], a.number == 0, n), "other cells were changed", line);
     expect(a.number != 0 || divided(b, false, a.lines), "the answer is not the model's", line);
     expect(a.number == 0 || (a.lines == 0 && a.rounds == 0), "a refusal has lines or rounds", line);
@@ -192,15 +206,26 @@ void try_balanced(Draw &draw) {
     const std::size_t n = b.sizes.size(), m = n > 1024 ? 0 : n;
     in_floats[0].lend(b.sizes, any_stand()), out_codes[1].lend(room(n), any_stand());
     out_codes[0].lend(room(m * m + 3 * m), any_stand()), out_doubles.lend(room(3 * m), any_stand());
-    const auto a = fratolivem_balanced(b.kind, b.limit, b.gap, b.minimum, in_floats[0].data(), n, out_codes[1].data(), out_codes[1].size(),
-                                       out_codes[0].data(), out_codes[0].size(), out_doubles.data(), out_doubles.size());
-    const std::string line = Text("balanced").u(b.kind).f(b.limit).f(b.gap).u(b.minimum).list(b.sizes).u(out_codes[1].size())
-                                 .u(out_codes[0].size()).u(out_doubles.size()).answered(a.number, a.where, a.place);
+    const auto a = fratolivem_balanced(b.kind, b.limit, b.gap, b.minimum, in_floats[0].data(), n, out_codes[1].data(),
+                                       out_codes[1].size(), out_codes[0].data(), out_codes[0].size(),
+                                       out_doubles.data(), out_doubles.size());
+    const std::string line = Text("balanced")
+                                 .u(b.kind)
+                                 .f(b.limit)
+                                 .f(b.gap)
+                                 .u(b.minimum)
+                                 .list(b.sizes)
+                                 .u(out_codes[1].size())
+                                 .u(out_codes[0].size())
+                                 .u(out_doubles.size())
+                                 .answered(a.number, a.where, a.place);
     const bool ok = a.number == 0;
-    expect(in_floats[0].kept() && kept(out_codes[1], ok, n) && kept(out_codes[0], ok, m * m + 3 * m) && kept(out_doubles, ok, 3 * m),
+    expect(in_floats[0].kept() && kept(out_codes[1], ok, n) && kept(out_codes[0], ok, m * m + 3 * m) &&
+               kept(out_doubles, ok, 3 * m),
            "other cells were changed", line);
     expect(!ok || n > 100 || divided(b, true, a.lines), "the answer is not the model's", line);
-    expect(!ok || (out_codes[0].zero_up_to(m * m + 3 * m) && out_doubles.zero_up_to(3 * m)), "work cells are not 0", line);
+    expect(!ok || (out_codes[0].zero_up_to(m * m + 3 * m) && out_doubles.zero_up_to(3 * m)), "work cells are not 0",
+           line);
     expect(ok || (a.lines == 0 && a.rounds == 0), "a refusal has lines or rounds", line);
 }
 
@@ -229,11 +254,15 @@ struct Columns {
         if (!one_in(20)) return;
         const std::size_t at = below(floats.size() + codes.size());
         const auto change = [](auto &list) {
-            if (one_in(2) || list.empty()) list.push_back({});
-            else list.pop_back();
+            if (one_in(2) || list.empty())
+                list.push_back({});
+            else
+                list.pop_back();
         };
-        if (at < floats.size()) change(floats[at]);
-        else change(codes[at - floats.size()]);
+        if (at < floats.size())
+            change(floats[at]);
+        else
+            change(codes[at - floats.size()]);
     }
     void lend() {
         for (std::size_t i = 0; i < floats.size(); i++) in_floats[i].lend(floats[i], any_stand());
@@ -249,14 +278,16 @@ struct Columns {
 };
 
 // The lists of the calls in their order: which are floats, and which codes.
-constexpr const char *flex_order = "fffcfffffcc", *main_order = "fffcc", *size_order = "fffcfffcc", *across_order = "fffcfffcccc";
+constexpr const char *flex_order = "fffcfffffcc", *main_order = "fffcc", *size_order = "fffcfffcc",
+                     *across_order = "fffcfffcccc";
 
 Columns flex_columns(Draw &draw) {
     room_odds = 40, draw.most_items = 5;
     const Case c = draw.next(Stage::flex);
     Columns l{std::vector<std::vector<float>>(8), std::vector<std::vector<uint32_t>>(3)};
     for (const model::Item &it : c.items) {
-        const float f[] = {it.main_base, it.main_minimum, it.main_maximum, it.main_edges, it.grow, it.shrink, it.main_start, it.main_end};
+        const float f[] = {it.main_base, it.main_minimum, it.main_maximum, it.main_edges,
+                           it.grow,      it.shrink,       it.main_start,   it.main_end};
         const uint32_t u[] = {it.has_main_maximum, it.auto_main_start, it.auto_main_end};
         for (std::size_t i = 0; i < 8; i++) l.floats[i].push_back(f[i]);
         for (std::size_t i = 0; i < 3; i++) l.codes[i].push_back(u[i]);
@@ -265,7 +296,8 @@ Columns flex_columns(Draw &draw) {
 }
 
 model::FlexLists flex_lists(const Columns &l) {
-    return {l.floats[0], l.floats[1], l.floats[2], l.codes[0], l.floats[3], l.floats[4], l.floats[5], l.floats[6], l.floats[7], l.codes[1], l.codes[2]};
+    return {l.floats[0], l.floats[1], l.floats[2], l.codes[0], l.floats[3], l.floats[4],
+            l.floats[5], l.floats[6], l.floats[7], l.codes[1], l.codes[2]};
 }
 
 void add_columns(Text &text, const Columns &l, const char *order) {
@@ -287,9 +319,10 @@ void try_flex_line(Draw &draw) {
     if (one_in(8)) inner = any_float();
     if (one_in(8)) gap = any_float();
     l.lend(), out_floats[0].lend(room(l.n()), any_stand());
-    const auto a = fratolivem_flex_line(inner, gap, LENT(in_floats[0]), LENT(in_floats[1]), LENT(in_floats[2]), LENT(in_codes[0]),
-                                        LENT(in_floats[3]), LENT(in_floats[4]), LENT(in_floats[5]), LENT(in_floats[6]), LENT(in_floats[7]),
-                                        LENT(in_codes[1]), LENT(in_codes[2]), LENT(out_floats[0]));
+    const auto a =
+        fratolivem_flex_line(inner, gap, LENT(in_floats[0]), LENT(in_floats[1]), LENT(in_floats[2]), LENT(in_codes[0]),
+                             LENT(in_floats[3]), LENT(in_floats[4]), LENT(in_floats[5]), LENT(in_floats[6]),
+                             LENT(in_floats[7]), LENT(in_codes[1]), LENT(in_codes[2]), LENT(out_floats[0]));
     Text text("flex_line");
     text.f(inner).f(gap), add_columns(text, l, flex_order), text.u(out_floats[0].size());
     const std::string line = text.answered(a.number, a.where, a.place);
@@ -298,7 +331,8 @@ void try_flex_line(Draw &draw) {
     expect(ok || (a.free == 0 && a.rounds == 0), "a refusal has values", line);
     if (!ok) return;
     const auto m = model::flex_line(inner, gap, flex_lists(l), out_floats[0].size());
-    expect(a.free == m.free && a.rounds == m.rounds && holds(out_floats[0], m.targets), "the answer is not the model's", line);
+    expect(a.free == m.free && a.rounds == m.rounds && holds(out_floats[0], m.targets), "the answer is not the model's",
+           line);
 }
 
 void try_flex_lines(Draw &draw) {
@@ -324,16 +358,19 @@ void try_flex_lines(Draw &draw) {
     }
     Lent<uint32_t> &lines = in_codes[3];
     l.lend(), lines.lend(counts, any_stand());
-    out_floats[0].lend(room(l.n()), any_stand()), out_ints.lend(room(l.n()), any_stand()), out_codes[1].lend(room(l.n()), any_stand());
-    const auto a = fratolivem_flex_lines(inner, gap, LENT(lines), LENT(in_floats[0]), LENT(in_floats[1]), LENT(in_floats[2]), LENT(in_codes[0]),
-                                         LENT(in_floats[3]), LENT(in_floats[4]), LENT(in_floats[5]), LENT(in_floats[6]), LENT(in_floats[7]),
-                                         LENT(in_codes[1]), LENT(in_codes[2]), LENT(out_floats[0]), LENT(out_ints), LENT(out_codes[1]));
+    out_floats[0].lend(room(l.n()), any_stand()), out_ints.lend(room(l.n()), any_stand()),
+        out_codes[1].lend(room(l.n()), any_stand());
+    const auto a = fratolivem_flex_lines(inner, gap, LENT(lines), LENT(in_floats[0]), LENT(in_floats[1]),
+                                         LENT(in_floats[2]), LENT(in_codes[0]), LENT(in_floats[3]), LENT(in_floats[4]),
+                                         LENT(in_floats[5]), LENT(in_floats[6]), LENT(in_floats[7]), LENT(in_codes[1]),
+                                         LENT(in_codes[2]), LENT(out_floats[0]), LENT(out_ints), LENT(out_codes[1]));
     Text text("flex_lines");
     text.f(inner).f(gap).list(counts), add_columns(text, l, flex_order);
     text.u(out_floats[0].size()).u(out_ints.size()).u(out_codes[1].size());
     const std::string line = text.answered(a.number, a.where, a.place);
     const bool ok = a.number == 0;
-    expect(l.kept() && lines.kept() && kept(out_floats[0], ok, l.n()) && kept(out_ints, ok, l.n()) && kept(out_codes[1], ok, l.n()),
+    expect(l.kept() && lines.kept() && kept(out_floats[0], ok, l.n()) && kept(out_ints, ok, l.n()) &&
+               kept(out_codes[1], ok, l.n()),
            "other cells were changed", line);
     expect(ok || (a.lines == 0 && a.rounds == 0), "a refusal has values", line);
     if (!ok) return;
@@ -363,8 +400,9 @@ void try_main(Draw &draw) {
     const std::size_t n = l.n();
     l.lend();
     for (auto &list : out_floats) list.lend(room(n), any_stand());
-    const auto a = fratolivem_place_main(inner, gap, justify, reversed, LENT(in_floats[0]), LENT(in_floats[1]), LENT(in_floats[2]),
-                                         LENT(in_codes[0]), LENT(in_codes[1]), LENT(out_floats[0]), LENT(out_floats[1]), LENT(out_floats[2]));
+    const auto a = fratolivem_place_main(inner, gap, justify, reversed, LENT(in_floats[0]), LENT(in_floats[1]),
+                                         LENT(in_floats[2]), LENT(in_codes[0]), LENT(in_codes[1]), LENT(out_floats[0]),
+                                         LENT(out_floats[1]), LENT(out_floats[2]));
     Text text("place_main");
     text.f(inner).f(gap).u(justify).u(reversed), add_columns(text, l, main_order);
     for (auto &list : out_floats) text.u(list.size());
@@ -375,14 +413,17 @@ void try_main(Draw &draw) {
     expect(same, "other cells were changed", line);
     expect(a.lines == 0 && a.rounds == 0, "lines or rounds", line);
     if (!ok) return;
-    const auto m = model::place_main(inner, gap, justify, reversed == 1, {l.floats[0], l.floats[1], l.floats[2], l.codes[0], l.codes[1]});
-    expect(holds(out_floats[0], m.offsets) && holds(out_floats[1], m.start) && holds(out_floats[2], m.end), "the answer is not the model's", line);
+    const auto m = model::place_main(inner, gap, justify, reversed == 1,
+                                     {l.floats[0], l.floats[1], l.floats[2], l.codes[0], l.codes[1]});
+    expect(holds(out_floats[0], m.offsets) && holds(out_floats[1], m.start) && holds(out_floats[2], m.end),
+           "the answer is not the model's", line);
 }
 
 // A container's cross axis with some damage, its eight numbers as the calls take them.
 model::CrossContainer cross_container(const Case &c) {
     model::CrossContainer k = c.container.cross();
-    constexpr Cell cells[] = {{"", true}, {"", false}, {"", true}, {"", false}, {"", true}, {"", false}, {"", true}, {"", false}};
+    constexpr Cell cells[] = {{"", true}, {"", false}, {"", true}, {"", false},
+                              {"", true}, {"", false}, {"", true}, {"", false}};
     static_assert(sizeof k == sizeof cells / sizeof(Cell) * 4, "a cell is 4 bytes");
     for (int i = one_in(2) ? 0 : damages(); i > 0; i--) {
         const std::size_t at = below(8);
@@ -402,8 +443,10 @@ void add_cross(Text &text, const model::CrossContainer &k) {
 Columns cross_columns(const Case &c, bool aligned) {
     Columns l{std::vector<std::vector<float>>(6), std::vector<std::vector<uint32_t>>(aligned ? 5 : 3)};
     for (const model::Item &it : c.items) {
-        const float f[] = {it.cross_measured, it.cross_minimum, it.cross_maximum, it.cross_edges, it.cross_start, it.cross_end};
-        const uint32_t u[] = {it.has_cross_maximum, it.auto_cross_start, it.auto_cross_end, it.align_self, it.auto_cross_size};
+        const float f[] = {it.cross_measured, it.cross_minimum, it.cross_maximum,
+                           it.cross_edges,    it.cross_start,   it.cross_end};
+        const uint32_t u[] = {it.has_cross_maximum, it.auto_cross_start, it.auto_cross_end, it.align_self,
+                              it.auto_cross_size};
         for (std::size_t i = 0; i < 6; i++) l.floats[i].push_back(f[i]);
         for (std::size_t i = 0; i < l.codes.size(); i++) l.codes[i].push_back(u[i]);
     }
@@ -413,8 +456,17 @@ Columns cross_columns(const Case &c, bool aligned) {
 
 model::CrossLists model_lists(const Columns &l) {
     const std::vector<uint32_t> none(l.n());
-    return {l.floats[0], l.floats[1], l.floats[2], l.codes[0], l.floats[3], l.floats[4], l.floats[5], l.codes[1], l.codes[2],
-            l.codes.size() > 3 ? l.codes[3] : none, l.codes.size() > 3 ? l.codes[4] : none};
+    return {l.floats[0],
+            l.floats[1],
+            l.floats[2],
+            l.codes[0],
+            l.floats[3],
+            l.floats[4],
+            l.floats[5],
+            l.codes[1],
+            l.codes[2],
+            l.codes.size() > 3 ? l.codes[3] : none,
+            l.codes.size() > 3 ? l.codes[4] : none};
 }
 
 void try_line_size(Draw &draw) {
@@ -423,13 +475,15 @@ void try_line_size(Draw &draw) {
     const model::CrossContainer k = cross_container(c);
     Columns l = cross_columns(c, false);
     l.lend();
-    const auto a = fratolivem_line_size(to_c(k), LENT(in_floats[0]), LENT(in_floats[1]), LENT(in_floats[2]), LENT(in_codes[0]),
-                                        LENT(in_floats[3]), LENT(in_floats[4]), LENT(in_floats[5]), LENT(in_codes[1]), LENT(in_codes[2]));
+    const auto a = fratolivem_line_size(to_c(k), LENT(in_floats[0]), LENT(in_floats[1]), LENT(in_floats[2]),
+                                        LENT(in_codes[0]), LENT(in_floats[3]), LENT(in_floats[4]), LENT(in_floats[5]),
+                                        LENT(in_codes[1]), LENT(in_codes[2]));
     Text text("line_size");
     add_cross(text, k), add_columns(text, l, size_order);
     const std::string line = text.answered(a.number, a.where, a.place);
     expect(l.kept(), "an input was changed", line);
-    expect(model::bits(a.size) == (a.number ? 0 : model::bits(model::cross_size(k, model_lists(l), 0, l.n()))), "the answer is not the model's", line);
+    expect(model::bits(a.size) == (a.number ? 0 : model::bits(model::cross_size(k, model_lists(l), 0, l.n()))),
+           "the answer is not the model's", line);
 }
 
 void try_lines(Draw &draw) {
@@ -451,7 +505,8 @@ void try_lines(Draw &draw) {
     expect(ok || model::bits(a.size) == 0, "a refusal has a size", line);
     if (!ok) return;
     const auto m = model::place_lines(k, align, l.floats[0]);
-    expect(model::bits(a.size) == model::bits(m.inner) && holds(out_floats[0], m.sizes) && holds(out_floats[1], m.offsets),
+    expect(model::bits(a.size) == model::bits(m.inner) && holds(out_floats[0], m.sizes) &&
+               holds(out_floats[1], m.offsets),
            "the answer is not the model's", line);
 }
 
@@ -467,9 +522,10 @@ void try_across(Draw &draw) {
     l.lend();
     Lent<float> *out[] = {&out_floats[0], &out_floats[1], &out_floats[2], &in_floats[8]};
     for (Lent<float> *list : out) list->lend(room(n), any_stand());
-    const auto a = fratolivem_place_across(height, reversed, LENT(in_floats[0]), LENT(in_floats[1]), LENT(in_floats[2]), LENT(in_codes[0]),
-                                           LENT(in_floats[3]), LENT(in_floats[4]), LENT(in_floats[5]), LENT(in_codes[1]), LENT(in_codes[2]),
-                                           LENT(in_codes[3]), LENT(in_codes[4]), LENT((*out[0])), LENT((*out[1])), LENT((*out[2])), LENT((*out[3])));
+    const auto a = fratolivem_place_across(
+        height, reversed, LENT(in_floats[0]), LENT(in_floats[1]), LENT(in_floats[2]), LENT(in_codes[0]),
+        LENT(in_floats[3]), LENT(in_floats[4]), LENT(in_floats[5]), LENT(in_codes[1]), LENT(in_codes[2]),
+        LENT(in_codes[3]), LENT(in_codes[4]), LENT((*out[0])), LENT((*out[1])), LENT((*out[2])), LENT((*out[3])));
     Text text("place_across");
     text.f(height).u(reversed), add_columns(text, l, across_order);
     for (Lent<float> *list : out) text.u(list->size());
@@ -484,7 +540,8 @@ void try_across(Draw &draw) {
     std::vector<float> cells[4];
     for (std::size_t i = 0; i < n; i++) {
         const auto p = model::place_item(height, reversed == 1, m.at(i));
-        cells[0].push_back(p.size), cells[1].push_back(p.start), cells[2].push_back(p.end), cells[3].push_back(p.offset);
+        cells[0].push_back(p.size), cells[1].push_back(p.start), cells[2].push_back(p.end),
+            cells[3].push_back(p.offset);
     }
     for (int i = 0; i < 4; i++) expect(holds(*out[i], cells[i]), "the answer is not the model's", line);
 }
@@ -511,30 +568,39 @@ void run_pass(const Case &c) {
     const model::PassRoom named = model::PassRoom::named(m);
     in_items.lend(items, any_stand());
     out_floats[0].lend(room(named.placed), any_stand()), out_floats[1].lend(room(named.lines), any_stand());
-    out_codes[1].lend(room(n), any_stand()), out_codes[2].lend(room(n), any_stand()), out_ints.lend(room(n), any_stand());
+    out_codes[1].lend(room(n), any_stand()), out_codes[2].lend(room(n), any_stand()),
+        out_ints.lend(room(n), any_stand());
     const bool none = !c.container.balanced() && one_in(2);
-    out_codes[0].lend(none ? 0 : room(named.work), any_stand()), out_doubles.lend(none ? 0 : room(named.sums), any_stand());
+    out_codes[0].lend(none ? 0 : room(named.work), any_stand()),
+        out_doubles.lend(none ? 0 : room(named.sums), any_stand());
     const auto *records = reinterpret_cast<const fratolivem_item *>(in_items.data());
-    const auto a = fratolivem_pass(recast<fratolivem_container>(c.container), records, n, out_floats[0].data(), out_floats[0].size(),
-                                   out_floats[1].data(), out_floats[1].size(), out_codes[1].data(), out_codes[1].size(), out_codes[2].data(),
-                                   out_codes[2].size(), out_ints.data(), out_ints.size(), out_codes[0].data(), out_codes[0].size(),
-                                   out_doubles.data(), out_doubles.size());
+    const auto a =
+        fratolivem_pass(recast<fratolivem_container>(c.container), records, n, out_floats[0].data(),
+                        out_floats[0].size(), out_floats[1].data(), out_floats[1].size(), out_codes[1].data(),
+                        out_codes[1].size(), out_codes[2].data(), out_codes[2].size(), out_ints.data(), out_ints.size(),
+                        out_codes[0].data(), out_codes[0].size(), out_doubles.data(), out_doubles.size());
     Text text("pass");
-    text.cells(&c.container, 16, container_cells).items(c.items).u(out_floats[0].size()).u(out_floats[1].size()).u(out_codes[1].size());
+    text.cells(&c.container, 16, container_cells)
+        .items(c.items)
+        .u(out_floats[0].size())
+        .u(out_floats[1].size())
+        .u(out_codes[1].size());
     text.u(out_codes[2].size()).u(out_ints.size()).u(out_codes[0].size()).u(out_doubles.size());
     const std::string line = text.answered(a.number, a.where, a.place);
     const bool ok = a.number == 0, balanced = ok && c.container.balanced();
-    expect(in_items.kept() && kept(out_floats[0], ok, 8 * n) && kept(out_floats[1], ok, 2 * n) && kept(out_codes[1], ok, n) &&
-               kept(out_codes[2], ok, n) && kept(out_ints, ok, n) && kept(out_codes[0], balanced, named.work) &&
-               kept(out_doubles, balanced, named.sums),
+    expect(in_items.kept() && kept(out_floats[0], ok, 8 * n) && kept(out_floats[1], ok, 2 * n) &&
+               kept(out_codes[1], ok, n) && kept(out_codes[2], ok, n) && kept(out_ints, ok, n) &&
+               kept(out_codes[0], balanced, named.work) && kept(out_doubles, balanced, named.sums),
            "other cells were changed", line);
-    expect(!balanced || (out_codes[0].zero_up_to(named.work) && out_doubles.zero_up_to(named.sums)), "work cells are not 0", line);
+    expect(!balanced || (out_codes[0].zero_up_to(named.work) && out_doubles.zero_up_to(named.sums)),
+           "work cells are not 0", line);
     expect(ok || (a.lines == 0 && a.rounds == 0 && model::bits(a.inner_cross) == 0), "a refusal has values", line);
     if (!ok) return;
     const model::Passed p = model::pass(c.container, c.items, model::PassRoom::named(n));
     expect(p.refusal.number == 0 && a.lines == p.lines_made && a.rounds == p.rounds_made &&
-               model::bits(a.inner_cross) == model::bits(p.inner_cross) && holds(out_floats[0], p.placed) && holds(out_floats[1], p.lines) &&
-               holds(out_codes[1], p.counts) && holds(out_codes[2], p.rounds) && holds(out_ints, p.free),
+               model::bits(a.inner_cross) == model::bits(p.inner_cross) && holds(out_floats[0], p.placed) &&
+               holds(out_floats[1], p.lines) && holds(out_codes[1], p.counts) && holds(out_codes[2], p.rounds) &&
+               holds(out_ints, p.free),
            "the answer is not the model's", line);
 }
 
@@ -547,20 +613,25 @@ void try_pass(Draw &draw) {
     for (int i = damages(); i > 0; i--) {
         const bool item = !c.items.empty() && one_in(2);
         const std::size_t at = below(item ? 22 : 16);
-        if (item) damage_cell(&c.items[below(c.items.size())], at, item_cells[at]);
-        else damage_cell(&c.container, at, container_cells[at]);
+        if (item)
+            damage_cell(&c.items[below(c.items.size())], at, item_cells[at]);
+        else
+            damage_cell(&c.container, at, container_cells[at]);
     }
     run_pass(c);
 }
 
 // Every cell of a container and of two items in turn with every odd number.
 void every_cell_of_a_pass() {
-    constexpr uint32_t odd[] = {0x7fc00000, 0xff800001, 0x7f800000, 0xff800000, 0x7f7fffff, 0x80000000, 0x00000001, 0x807fffff, 0x00800000,
-                                0x48800000, 0x48800001, 0xc8800000, 0xc8800001, 0x48000000, 0x48000001, 0xc8000000, 0xc8000001, 0x44800000,
-                                0x44800001, 0xbf800000, 0x3c800000, 0x3c800001, 0x3c000000, 0, 1, 2, 3, 4, 5, 9, 10, 11, 13, 14, 0xffffffff};
+    constexpr uint32_t odd[] = {0x7fc00000, 0xff800001, 0x7f800000, 0xff800000, 0x7f7fffff, 0x80000000, 0x00000001,
+                                0x807fffff, 0x00800000, 0x48800000, 0x48800001, 0xc8800000, 0xc8800001, 0x48000000,
+                                0x48000001, 0xc8000000, 0xc8000001, 0x44800000, 0x44800001, 0xbf800000, 0x3c800000,
+                                0x3c800001, 0x3c000000, 0,          1,          2,          3,          4,
+                                5,          9,          10,         11,         13,         14,         0xffffffff};
     room_odds = 0;
     Case plain{Stage::pass, {}, {}, {}, {}};
-    plain.container.inner_main = 300, plain.container.wrap = 3, plain.container.limit_kind = 0, plain.container.limit = 150;
+    plain.container.inner_main = 300, plain.container.wrap = 3, plain.container.limit_kind = 0,
+    plain.container.limit = 150;
     plain.items.resize(2);
     for (model::Item &it : plain.items) it.main_base = 100, it.grow = 1, it.cross_measured = 10;
     for (uint32_t wrap = 0; wrap <= 4; wrap += 2)
@@ -573,7 +644,8 @@ void every_cell_of_a_pass() {
             }
             for (std::size_t i = 0; i < 44; i++) {
                 Case c = plain;
-                c.items[i / 22].has_main_maximum = c.items[i / 22].has_cross_maximum = 1, c.items[i / 22].main_maximum = c.items[i / 22].cross_maximum = 500;
+                c.items[i / 22].has_main_maximum = c.items[i / 22].has_cross_maximum = 1,
+                            c.items[i / 22].main_maximum = c.items[i / 22].cross_maximum = 500;
                 set_cell(&c.items[i / 22], i % 22, bits);
                 run_pass(c);
             }
@@ -589,17 +661,8 @@ int main(int argc, char **argv) {
     chance.seed(seed), dirt.seed(seed + 1);
     Draw draw(seed + 2);
     void (*const tries[])(Draw &) = {
-        try_break_limit,
-        try_greedy,
-        try_balanced,
-        try_flex_line,
-        try_flex_lines,
-        try_main,
-        try_line_size,
-        try_lines,
-        try_across,
-        try_pass,
-        try_pass,
+        try_break_limit, try_greedy, try_balanced, try_flex_line, try_flex_lines, try_main,
+        try_line_size,   try_lines,  try_across,   try_pass,      try_pass,
     };
     every_cell_of_a_pass();
     while (calls < wanted) tries[below(sizeof tries / sizeof *tries)](draw);

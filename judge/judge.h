@@ -1,6 +1,6 @@
-/* The entry points of libjudge.a, which judge/build makes of the Rust's own text. Rust may be handed what it takes alone: no n of 0 to
- * judge_balance, judge_cross_size or judge_pass, and no code that no row names but 11 of align_self, `safe
- * stretch`. */
+/* The entry points of libjudge.a, which judge/build makes of the Rust's own text. Rust may be handed what it takes
+ * alone: no n of 0 to judge_balance, judge_cross_size or judge_pass, and no code that no row names but 11 of
+ * align_self, `safe stretch`. */
 #ifndef JUDGE_H
 #define JUDGE_H
 
@@ -56,7 +56,8 @@ size_t judge_lines(uint32_t balanced, const judge_breaking *container, judge_lis
 /* The module `balance` alone; an infinite limit is max-content. */
 size_t judge_balance(float limit, float gap, size_t minimum, const float *sizes, size_t n, uint32_t *counts);
 
-/* Stages of one line. placed: offsets, used start margins, used end margins (main); sizes, used start and end margins, offsets (across). */
+/* Stages of one line. placed: offsets, used start margins, used end margins (main); sizes, used start and end margins,
+ * offsets (across). */
 void judge_flex(const judge_container *c, const judge_item *items, size_t n, float *targets);
 void judge_main(const judge_container *c, const judge_item *items, const float *targets, size_t n, float *placed);
 float judge_cross_size(const judge_container *c, const judge_item *items, size_t n);
@@ -73,8 +74,8 @@ void judge_line_drop(judge_line *line);
 float judge_across_lines(const judge_container *c, const float *sizes, size_t n, float *placed);
 
 /* All stages. placed has 8n cells, lines 2n and counts n, in the order of fratolivem_pass; answers the lines. */
-size_t judge_pass(const judge_container *c, const judge_item *items, size_t n, float *placed, float *lines, uint32_t *counts,
-                  float *inner_cross);
+size_t judge_pass(const judge_container *c, const judge_item *items, size_t n, float *placed, float *lines,
+                  uint32_t *counts, float *inner_cross);
 
 #ifdef __cplusplus
 }

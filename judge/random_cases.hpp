@@ -33,16 +33,18 @@ public:
     }
     std::size_t most_items = 0; // 0: as each stage likes it
 
-    // A longer list for balanced breaking, made to slip a midpoint search: mixed sizes with long runs of zeros after them, limits round what some
-    // run of items takes, and more lines than are needed.
+    // A longer list for balanced breaking, made to slip a midpoint search: mixed sizes with long runs of zeros after
+    // them, limits round what some run of items takes, and more lines than are needed.
     Case slip() {
         Case c{Stage::balanced, {1, 1, 1, one_in(8) ? 2u : 0u, 0, 0, 0, 0, 0, 0, 1}, {}, {}, {}};
         const std::size_t n = 8 + below(one_in(20) ? 400 : 60);
         const uint64_t kinds = 2 + below(12);
         c.breaking.gap = std::array<float, 4>{0, 0, 1, 10}[below(4)];
         while (c.list.size() < n) {
-            for (std::size_t mixed = 1 + below(8); mixed && c.list.size() < n; mixed--) c.list.push_back(float(below(kinds) * 5));
-            for (std::size_t run = below(1 + n / (1 + below(6))); run && c.list.size() < n; run--) c.list.push_back(0.0f);
+            for (std::size_t mixed = 1 + below(8); mixed && c.list.size() < n; mixed--)
+                c.list.push_back(float(below(kinds) * 5));
+            for (std::size_t run = below(1 + n / (1 + below(6))); run && c.list.size() < n; run--)
+                c.list.push_back(0.0f);
         }
         const std::size_t from = below(n), to = from + 1 + below(n - from);
         for (std::size_t i = from; i < to; i++) c.breaking.available += c.list[i] + (i > from ? c.breaking.gap : 0.0f);
@@ -149,7 +151,8 @@ private:
     void cross_container(Case &c, double used) {
         model::Container &k = c.container;
         k.gap_cross = one_in(2) ? 0.0f : size();
-        k.wrap = uint32_t(below(5)), k.align_content = uint32_t(one_in(3) ? 10 : below(14)), k.justify_content = uint32_t(below(14));
+        k.wrap = uint32_t(below(5)), k.align_content = uint32_t(one_in(3) ? 10 : below(14)),
+        k.justify_content = uint32_t(below(14));
         k.direction = uint32_t(below(4));
         if (one_in(2)) k.has_inner_cross = 1, k.inner_cross = inner_round(used);
         if (one_in(3)) k.has_minimum_cross = 1, k.minimum_cross = inner_round(used);
@@ -168,7 +171,8 @@ private:
         Case c = flexing();
         c.stage = Stage::main;
         cross_container(c, 0);
-        c.container.has_inner_cross = c.container.has_minimum_cross = c.container.has_maximum_cross = c.container.wrap = 0;
+        c.container.has_inner_cross = c.container.has_minimum_cross = c.container.has_maximum_cross = c.container.wrap =
+            0;
         double used = 0;
         const bool flexed = one_in(2);
         if (flexed) {
@@ -178,9 +182,11 @@ private:
         }
         for (std::size_t i = 0; i < c.items.size(); i++) {
             model::Item &it = c.items[i];
-            it.main_base = it.main_minimum = it.main_maximum = it.main_edges = it.grow = it.shrink = 0.0f, it.has_main_maximum = 0;
+            it.main_base = it.main_minimum = it.main_maximum = it.main_edges = it.grow = it.shrink = 0.0f,
+            it.has_main_maximum = 0;
             if (!flexed) c.list.push_back(worked());
-            used += double(c.list[i]) + double(model::margins_of(it.main_start, it.auto_main_start, it.main_end, it.auto_main_end)) +
+            used += double(c.list[i]) +
+                    double(model::margins_of(it.main_start, it.auto_main_start, it.main_end, it.auto_main_end)) +
                     double(c.container.gap_main);
         }
         if (!flexed || one_in(2)) c.container.inner_main = inner_round(used - double(c.container.gap_main));
@@ -200,7 +206,8 @@ private:
         double used = 0;
         for (float &x : c.list) x = one_in(2) ? size() : worked(), used += double(x);
         cross_container(c, used);
-        if (c.container.has_inner_cross && one_in(2)) c.container.inner_cross = inner_round(used + double(c.container.gap_cross) * double(c.list.size()));
+        if (c.container.has_inner_cross && one_in(2))
+            c.container.inner_cross = inner_round(used + double(c.container.gap_cross) * double(c.list.size()));
         return c;
     }
     Case across() {
@@ -217,7 +224,8 @@ private:
         Case c = flexing();
         c.stage = Stage::pass;
         double most = 0, used = 0;
-        for (model::Item &it : c.items) cross_of(it), most = std::max(most, double(it.cross_measured)), used += outer(it);
+        for (model::Item &it : c.items)
+            cross_of(it), most = std::max(most, double(it.cross_measured)), used += outer(it);
         cross_container(c, one_in(2) ? most : most * double(c.items.size()) / 2);
         model::Container &k = c.container;
         k.limit_kind = std::array<uint32_t, 8>{0, 0, 0, 0, 0, 0, 1, 2}[below(8)];
@@ -225,14 +233,18 @@ private:
         k.minimum_lines = uint32_t(one_in(3) ? below(c.items.size() + 3) : 1);
         return c;
     }
-    // Breaking: ties, zero items, negative sizes and full lines made likely, and lists made to slip a midpoint search: runs of zeros after mixed sizes.
+    // Breaking: ties, zero items, negative sizes and full lines made likely, and lists made to slip a midpoint search:
+    // runs of zeros after mixed sizes.
     Case breaking(Stage stage) {
         Case c{stage, {}, {}, {}, {}};
         Breaking &b = c.breaking;
         b.known_is_definite = !one_in(10), b.main_is_definite = flag(2), b.is_row = flag(2);
         b.available_kind = std::array<uint32_t, 8>{0, 0, 0, 0, 0, 0, 1, 2}[below(8)];
         if (one_in(2)) b.gap = size();
-        const std::size_t n = most_items ? 1 + below(most_items) : one_in(400) ? 1 + below(1024) : one_in(8) ? 1 + below(64) : 1 + below(14);
+        const std::size_t n = most_items    ? 1 + below(most_items)
+                              : one_in(400) ? 1 + below(1024)
+                              : one_in(8)   ? 1 + below(64)
+                                            : 1 + below(14);
         const bool slips = one_in(3);
         double sum = 0;
         while (c.list.size() < n) {
@@ -259,7 +271,8 @@ private:
 // ---- all short cases over a few numbers
 
 // Calls `each` with every choice of one digit below each radix.
-inline void all_choices(const std::vector<uint32_t> &radices, const std::function<void(const std::vector<uint32_t> &)> &each) {
+inline void all_choices(const std::vector<uint32_t> &radices,
+                        const std::function<void(const std::vector<uint32_t> &)> &each) {
     std::vector<uint32_t> digits(radices.size(), 0);
     while (true) {
         each(digits);
@@ -276,7 +289,8 @@ inline void short_flex(std::size_t n, const Each &each) {
     const std::array<float, 2> minima{0, 3}, edges{0, 1};
     std::vector<uint32_t> radices{n == 1 ? 12u : n == 2 ? 9u : 6u, 2};
     for (std::size_t i = 0; i < n; i++)
-        for (uint32_t r : n < 3 ? std::vector<uint32_t>{3, 2, 3, 2, 3, 3} : std::vector<uint32_t>{2, 2, 2, 1, 3, 2}) radices.push_back(r);
+        for (uint32_t r : n < 3 ? std::vector<uint32_t>{3, 2, 3, 2, 3, 3} : std::vector<uint32_t>{2, 2, 2, 1, 3, 2})
+            radices.push_back(r);
     all_choices(radices, [&](const std::vector<uint32_t> &d) {
         Case c{Stage::flex, {}, {}, {}, {}};
         c.container.inner_main = float(d[0]), c.container.gap_main = float(d[1]);
@@ -284,7 +298,8 @@ inline void short_flex(std::size_t n, const Each &each) {
             const uint32_t *at = &d[2 + 6 * i];
             model::Item it;
             it.main_base = bases[at[0]], it.main_minimum = minima[at[1]], it.has_main_maximum = at[2] > 0;
-            it.main_maximum = at[2] ? float(2 * at[2] - 1) : 0, it.main_edges = edges[at[3]], it.grow = grows[at[4]], it.shrink = shrinks[at[5]];
+            it.main_maximum = at[2] ? float(2 * at[2] - 1) : 0, it.main_edges = edges[at[3]], it.grow = grows[at[4]],
+            it.shrink = shrinks[at[5]];
             c.items.push_back(it);
         }
         each(c);
@@ -299,7 +314,8 @@ inline void short_exact(const Each &each) {
         c.container.inner_main = float(d[1] + d[3]);
         for (std::size_t i = 0; i < 2; i++) {
             model::Item it;
-            it.main_base = float(d[2 * i]), it.main_maximum = float(d[2 * i + 1]), it.has_main_maximum = 1, it.shrink = 1.0f;
+            it.main_base = float(d[2 * i]), it.main_maximum = float(d[2 * i + 1]), it.has_main_maximum = 1,
+            it.shrink = 1.0f;
             c.items.push_back(it);
         }
         each(c);
@@ -312,7 +328,8 @@ inline void short_main(std::size_t n, const Each &each) {
     for (std::size_t i = 0; i < n; i++) radices.push_back(3), radices.push_back(4);
     all_choices(radices, [&](const std::vector<uint32_t> &d) {
         Case c{Stage::main, {}, {}, {}, {}};
-        c.container.inner_main = inners[d[0]], c.container.gap_main = float(d[1]), c.container.justify_content = d[2], c.container.direction = d[3];
+        c.container.inner_main = inners[d[0]], c.container.gap_main = float(d[1]), c.container.justify_content = d[2],
+        c.container.direction = d[3];
         for (std::size_t i = 0; i < n; i++) {
             model::Item it;
             it.auto_main_start = d[5 + 2 * i] == 1 || d[5 + 2 * i] == 2, it.auto_main_end = d[5 + 2 * i] == 2;
@@ -345,13 +362,16 @@ inline void short_across(const Each &each) {
     all_choices({3, 2, 2, 2, 3, 3, 11, 2, 4, 3}, [&](const std::vector<uint32_t> &d) {
         Case c{Stage::across, {}, {}, {}, {}};
         model::Item it;
-        it.cross_measured = float(d[0]), it.cross_minimum = float(d[1]), it.has_cross_maximum = d[2], it.cross_maximum = float(d[2]);
+        it.cross_measured = float(d[0]), it.cross_minimum = float(d[1]), it.has_cross_maximum = d[2],
+        it.cross_maximum = float(d[2]);
         it.cross_edges = float(2 * d[3]), it.auto_cross_start = d[4] == 2, it.cross_start = d[4] == 1 ? -1.0f : 0.0f;
         it.auto_cross_end = d[5] == 2, it.cross_end = float(d[5] == 1), it.align_self = d[6], it.auto_cross_size = d[7];
         c.container.wrap = d[9], c.items = {it}, c.list = {float(d[8])};
         each(c);
         c.stage = Stage::size, c.list.clear();
-        if (d[8]) c.container.has_inner_cross = d[8] & 1, c.container.inner_cross = float(d[8]), c.container.has_minimum_cross = d[8] >> 1, c.container.minimum_cross = 2.0f;
+        if (d[8])
+            c.container.has_inner_cross = d[8] & 1, c.container.inner_cross = float(d[8]),
+            c.container.has_minimum_cross = d[8] >> 1, c.container.minimum_cross = 2.0f;
         each(c);
     });
 }

@@ -1,6 +1,7 @@
 // replay FILE: our answers beside the sample of the Rust's answers that the repository carries; no Rust is needed.
 // Every difference must be the listed one that the sample names.
-// replay FILE names: writes the sample again, each difference named as it is now; the cases and the Rust's answers stay.
+// replay FILE names: writes the sample again, each difference named as it is now; the cases and the Rust's answers
+// stay.
 #include <cstdio>
 #include <fstream>
 
@@ -30,13 +31,15 @@ int main(int argc, char **argv) {
         if (naming && is_explained) line = ways::sample_line(c, rust, set), std::printf("%s\n", line.c_str());
         if (!is_explained || line != ways::sample_line(c, rust, set)) {
             if (++bad <= 10)
-                std::fprintf(stderr, "DIFFERS, line %ld: %s\n  number %u, %s\n", number, line.c_str(), us.number, text_of(us.answer).c_str());
+                std::fprintf(stderr, "DIFFERS, line %ld: %s\n  number %u, %s\n", number, line.c_str(), us.number,
+                             text_of(us.answer).c_str());
             continue;
         }
         (is_equal ? equal : differ)++;
     }
     for (int s = 0; s < stage_count; s++)
         if (!stages[s]) bad++, std::fprintf(stderr, "replay: no case of %s\n", stage_names[s]);
-    std::fprintf(naming ? stderr : stdout, "replay: %ld of the Rust's answers equal, %ld differ as listed, %ld otherwise\n", equal, differ, bad);
+    std::fprintf(naming ? stderr : stdout,
+                 "replay: %ld of the Rust's answers equal, %ld differ as listed, %ld otherwise\n", equal, differ, bad);
     return bad ? 1 : 0;
 }

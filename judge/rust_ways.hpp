@@ -1,5 +1,6 @@
-// The documents' rules with each way in which the Rust differs behind a switch of its own. With no switch on this is the documents' rule once
-// more; with all of them it must be the Rust, bit for bit, or a difference is not explained. No text of the Rust is in it.
+// The documents' rules with each way in which the Rust differs behind a switch of its own. With no switch on this is
+// the documents' rule once more; with all of them it must be the Rust, bit for bit, or a difference is not explained.
+// No text of the Rust is in it.
 #ifndef RUST_WAYS_HPP
 #define RUST_WAYS_HPP
 
@@ -21,11 +22,14 @@ enum Way : uint32_t {
     d7 = 1 << 7,  // the base is raised to padding plus border before flexing
     d8 = 1 << 8,  // a stretched cross size is not raised to padding plus border
     d9 = 1 << 9,  // -0.0 is kept
-    d17 = 1 << 10, // an inner cross size worked out of lines is at least 0, and stretch fills it to 0 where neither a size nor a minimum is given
+    // an inner cross size worked out of lines is at least 0, and stretch fills it to 0 where neither a size nor a
+    // minimum is given
+    d17 = 1 << 10,
     d18 = 1 << 11, // cross auto margins share negative free space too
 };
 constexpr int way_count = 12;
-constexpr const char *way_names[way_count] = {"D1", "D2", "D3", "D4", "D5", "D6", "D6'", "D7", "D8", "D9", "D17", "D18"};
+constexpr const char *way_names[way_count] = {"D1",  "D2", "D3", "D4", "D5",  "D6",
+                                              "D6'", "D7", "D8", "D9", "D17", "D18"};
 constexpr uint32_t all_ways = (1u << way_count) - 1;
 
 inline std::string names_of(uint32_t ways) {
@@ -48,8 +52,9 @@ struct Flexing {
     bool frozen = false;
 
     Flexing(uint32_t ways, const model::Item &it)
-        : base(cleaned(it.main_base)), margins(model::margins_of(it.main_start, it.auto_main_start, it.main_end, it.auto_main_end)),
-          grow(it.grow), shrink(it.shrink), minimum(cleaned(it.main_minimum)), maximum(cleaned(it.main_maximum)),
+        : base(cleaned(it.main_base)),
+          margins(model::margins_of(it.main_start, it.auto_main_start, it.main_end, it.auto_main_end)), grow(it.grow),
+          shrink(it.shrink), minimum(cleaned(it.main_minimum)), maximum(cleaned(it.main_maximum)),
           edges(cleaned(it.main_edges)), has_maximum(it.has_main_maximum) {
         if (ways & d7) base = std::max(base, edges);
         inner_base = std::max(base - edges, 0.0f);
@@ -82,7 +87,8 @@ inline std::vector<float> flex(uint32_t ways, float inner, float gap, const mode
     const bool growing = before > 0;
     for (Flexing &it : line) {
         const bool rigid = ways & d2 ? it.grow == 0.0f && it.shrink == 0.0f : it.factor(growing) == 0.0f;
-        it.frozen = rigid || (growing ? it.base > it.hypothetical : it.base < it.hypothetical) || (ways & d1 && before == 0);
+        it.frozen =
+            rigid || (growing ? it.base > it.hypothetical : it.base < it.hypothetical) || (ways & d1 && before == 0);
     }
     const float initial = free_space(inner, gap, line), gaps = model::gaps_of(gap, n);
     while (std::any_of(line.begin(), line.end(), [](const Flexing &it) { return !it.frozen; })) {
@@ -93,7 +99,8 @@ inline std::vector<float> flex(uint32_t ways, float inner, float gap, const mode
         const bool nothing = weights == 0.0f || (ways & d5 ? !std::isnormal(free) : free == 0.0f);
         for (Flexing &it : line) {
             if (it.frozen) continue;
-            const float before_clamp = nothing ? (ways & d6 ? it.target : it.base) : it.base + free * (it.weight(growing) / weights);
+            const float before_clamp =
+                nothing ? (ways & d6 ? it.target : it.base) : it.base + free * (it.weight(growing) / weights);
             it.target = it.clamped(before_clamp, ways & d6b ? 0.0f : it.edges);
             it.violation = it.target - before_clamp;
             total = total + it.violation;
@@ -131,8 +138,10 @@ inline model::CrossLists cross_lists(const std::vector<model::Item> &items) {
     return l;
 }
 
-// Line sizes may be negative where a host hands them over: with bounds of 0 for those that are absent the document's rule is the Rust's.
-inline model::PlacedLines place_lines(uint32_t ways, model::CrossContainer c, uint32_t align_content, const std::vector<float> &lines) {
+// Line sizes may be negative where a host hands them over: with bounds of 0 for those that are absent the document's
+// rule is the Rust's.
+inline model::PlacedLines place_lines(uint32_t ways, model::CrossContainer c, uint32_t align_content,
+                                      const std::vector<float> &lines) {
     if (ways & d17 && !c.has_minimum) c.has_minimum = 1, c.minimum = 0.0f;
     return model::place_lines(c, align_content, lines);
 }
@@ -157,8 +166,8 @@ inline Answer pass(uint32_t ways, const Case &c) {
     std::size_t s = 0;
     for (uint32_t count : counts) {
         const std::vector<float> targets = flex(ways, k.inner_main, k.gap_main, &c.items[s], count);
-        const model::PlacedMain along =
-            model::place_main(k.inner_main, k.gap_main, k.justify_content, k.reversed(), main_lists(targets, &c.items[s], count));
+        const model::PlacedMain along = model::place_main(k.inner_main, k.gap_main, k.justify_content, k.reversed(),
+                                                          main_lists(targets, &c.items[s], count));
         for (std::size_t i = 0; i < count; i++) {
             placed[s + i] = targets[i], placed[n + s + i] = along.offsets[i];
             placed[2 * n + s + i] = along.start[i], placed[3 * n + s + i] = along.end[i];
@@ -171,7 +180,8 @@ inline Answer pass(uint32_t ways, const Case &c) {
     for (std::size_t j = 0; j < counts.size(); j++)
         for (uint32_t end = uint32_t(s) + counts[j]; s < end; s++) {
             const model::PlacedItem p = place_item(ways, lines.sizes[j], k.cross().reversed(), c.items[s].cross());
-            placed[4 * n + s] = p.size, placed[5 * n + s] = p.offset, placed[6 * n + s] = p.start, placed[7 * n + s] = p.end;
+            placed[4 * n + s] = p.size, placed[5 * n + s] = p.offset, placed[6 * n + s] = p.start,
+                           placed[7 * n + s] = p.end;
         }
     Answer a = joined(std::vector<float>{lines.inner}, lines.sizes, lines.offsets, placed);
     a.counts = counts;
@@ -194,8 +204,9 @@ inline Answer answer(uint32_t ways, const Case &c) {
     case Stage::greedy:
     case Stage::balanced: {
         const Breaking &b = c.breaking;
-        const fratolivem_limit limit = model::break_limit({b.known_is_definite, b.main_is_definite, b.is_row, b.available_kind, b.available,
-                                                           b.has_minimum, b.minimum, b.has_maximum, b.maximum});
+        const fratolivem_limit limit =
+            model::break_limit({b.known_is_definite, b.main_is_definite, b.is_row, b.available_kind, b.available,
+                                b.has_minimum, b.minimum, b.has_maximum, b.maximum});
         const bool balanced = c.stage == Stage::balanced;
         const model::Items items(limit.kind, limit.limit, b.gap, c.list, balanced);
         return {{}, balanced ? model::balanced(items, b.line_count) : model::greedy(items)};
@@ -206,7 +217,8 @@ inline Answer answer(uint32_t ways, const Case &c) {
         const model::PlacedMain p = model::place_main(k.inner_main, k.gap_main, k.justify_content, k.reversed(), l);
         return joined(p.offsets, p.start, p.end);
     }
-    case Stage::size: return joined(std::vector<float>{model::cross_size(k.cross(), cross_lists(c.items), 0, c.items.size())});
+    case Stage::size:
+        return joined(std::vector<float>{model::cross_size(k.cross(), cross_lists(c.items), 0, c.items.size())});
     case Stage::lines: {
         const model::PlacedLines p = place_lines(ways, k.cross(), k.align_content, c.list);
         return joined(std::vector<float>{p.inner}, p.sizes, p.offsets);
@@ -230,7 +242,8 @@ inline const std::vector<uint32_t> &sets() {
     static const std::vector<uint32_t> all = [] {
         std::vector<uint32_t> v(all_ways + 1);
         for (uint32_t i = 0; i <= all_ways; i++) v[i] = i;
-        std::stable_sort(v.begin(), v.end(), [](uint32_t a, uint32_t b) { return __builtin_popcount(a) < __builtin_popcount(b); });
+        std::stable_sort(v.begin(), v.end(),
+                         [](uint32_t a, uint32_t b) { return __builtin_popcount(a) < __builtin_popcount(b); });
         return v;
     }();
     return all;

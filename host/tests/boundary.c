@@ -52,8 +52,8 @@ static int all_canaries(size_t n_counts, size_t n_work, size_t n_sums) {
            canaries(sums, 8, 3 * MOST + 2, n_sums);
 }
 
-static void example(const char *name, uint32_t kind, float limit, float gap, uint32_t minimum, const float *sizes, size_t n,
-                    const uint32_t *wanted, size_t lines) {
+static void example(const char *name, uint32_t kind, float limit, float gap, uint32_t minimum, const float *sizes,
+                    size_t n, const uint32_t *wanted, size_t lines) {
     const size_t n_work = fratolivem_work_cells(n), n_sums = fratolivem_sum_cells(n);
     fratolivem_answer a;
     size_t i;
@@ -74,9 +74,9 @@ static void refused(const char *name, fratolivem_answer a, uint32_t number, uint
 #define COUNTS(...) ((const uint32_t[]){__VA_ARGS__}), sizeof((const uint32_t[]){__VA_ARGS__}) / sizeof(uint32_t)
 
 #define CODES(...) ((const uint32_t[]){__VA_ARGS__}), sizeof((const uint32_t[]){__VA_ARGS__}) / sizeof(uint32_t)
-#define ITEMS(has_second_maximum)                                                                                                       \
-    LIST(100, 100), LIST(0, 0), LIST(NAN, 120), CODES(0, has_second_maximum), LIST(0, 0), LIST(1, 3), LIST(1, 1), LIST(0, NAN),           \
-        LIST(0, 0), CODES(0, 1), CODES(0, 0)
+#define ITEMS(has_second_maximum)                                                                                      \
+    LIST(100, 100), LIST(0, 0), LIST(NAN, 120), CODES(0, has_second_maximum), LIST(0, 0), LIST(1, 3), LIST(1, 1),      \
+        LIST(0, NAN), LIST(0, 0), CODES(0, 1), CODES(0, 0)
 
 /* P10, P11 and a refusal, with a cell more on both sides of each lent list. */
 static void flexing(void) {
@@ -101,20 +101,26 @@ static void flexing(void) {
     expect(rounds[0] == 9 && rounds[1] == 1 && rounds[2] == 1 && rounds[3] == 9, "two lines");
 }
 
-#define CROSS_ITEMS(second_code)                                                                                                          \
-    LIST(20, 30), LIST(0, 0), LIST(NAN, NAN), CODES(0, 0), LIST(4, 0), LIST(1, NAN), LIST(-3, 2), CODES(0, second_code), CODES(0, 0)
+#define CROSS_ITEMS(second_code)                                                                                       \
+    LIST(20, 30), LIST(0, 0), LIST(NAN, NAN), CODES(0, 0), LIST(4, 0), LIST(1, NAN), LIST(-3, 2),                      \
+        CODES(0, second_code), CODES(0, 0)
 
 /* P14, P15, a line and its items across, and a refusal of each, with a cell more on both sides of each lent list. */
 static void placing(void) {
-    const fratolivem_cross wall = {100, 1, NAN, 0, 90, 1, 10, FRATOLIVEM_WRAP}, p15 = {100, 1, NAN, 0, NAN, 0, 10, FRATOLIVEM_WRAP};
+    const fratolivem_cross wall = {100, 1, NAN, 0, 90, 1, 10, FRATOLIVEM_WRAP},
+                           p15 = {100, 1, NAN, 0, NAN, 0, 10, FRATOLIVEM_WRAP};
     float offsets[5] = {9, 9, 9, 9, 9}, start[5] = {9, 9, 9, 9, 9}, end[5] = {9, 9, 9, 9, 9}, sizes[4] = {9, 9, 9, 9};
-    fratolivem_answer a = fratolivem_place_main(100, 5, FRATOLIVEM_SPACE_BETWEEN, 0, LIST(10, 10, 10), LIST(0, 0, 0), LIST(0, 0, 0),
-                                                CODES(0, 0, 0), CODES(0, 0, 0), offsets + 1, 3, start + 1, 3, end + 1, 3);
+    fratolivem_answer a =
+        fratolivem_place_main(100, 5, FRATOLIVEM_SPACE_BETWEEN, 0, LIST(10, 10, 10), LIST(0, 0, 0), LIST(0, 0, 0),
+                              CODES(0, 0, 0), CODES(0, 0, 0), offsets + 1, 3, start + 1, 3, end + 1, 3);
     fratolivem_sized s;
     expect(a.number == 0 && a.where == 0 && a.place == 0 && a.lines == 0 && a.rounds == 0, "P14");
     expect(offsets[0] == 9 && offsets[1] == 0 && offsets[2] == 35 && offsets[3] == 35 && offsets[4] == 9, "P14");
-    expect(start[0] == 9 && start[1] == 0 && start[3] == 0 && start[4] == 9 && end[0] == 9 && end[2] == 0 && end[4] == 9, "P14");
-    a = fratolivem_place_main(100, 5, 14, 0, LIST(10), LIST(0), LIST(0), CODES(0), CODES(0), offsets + 1, 3, start + 1, 3, end + 1, 3);
+    expect(start[0] == 9 && start[1] == 0 && start[3] == 0 && start[4] == 9 && end[0] == 9 && end[2] == 0 &&
+               end[4] == 9,
+           "P14");
+    a = fratolivem_place_main(100, 5, 14, 0, LIST(10), LIST(0), LIST(0), CODES(0), CODES(0), offsets + 1, 3, start + 1,
+                              3, end + 1, 3);
     expect(a.number == 5 && a.where == FRATOLIVEM_CONTAINER && offsets[2] == 35, "a keyword that names nothing");
 
     s = fratolivem_place_lines(p15, FRATOLIVEM_STRETCH, LIST(20, 30), sizes + 1, 2, offsets + 1, 2);
@@ -122,21 +128,26 @@ static void placing(void) {
     expect(sizes[0] == 9 && sizes[1] == 40 && sizes[2] == 50 && sizes[3] == 9, "P15");
     expect(offsets[0] == 9 && offsets[1] == 0 && offsets[2] == 10 && offsets[3] == 35, "P15");
     s = fratolivem_place_lines(wall, FRATOLIVEM_END, LIST(20, 30), sizes + 1, 2, offsets + 1, 2);
-    expect(s.number == 0 && s.size == 90 && sizes[1] == 20 && offsets[1] == 30 && offsets[2] == 10, "an inner size held to its maximum");
+    expect(s.number == 0 && s.size == 90 && sizes[1] == 20 && offsets[1] == 30 && offsets[2] == 10,
+           "an inner size held to its maximum");
     s = fratolivem_place_lines(wall, FRATOLIVEM_END, LIST(20, INFINITY), sizes + 1, 2, offsets + 1, 2);
-    expect(s.number == 3 && s.where == FRATOLIVEM_AT && s.place == 1 && s.size == 0 && sizes[1] == 20, "an infinite line");
+    expect(s.number == 3 && s.where == FRATOLIVEM_AT && s.place == 1 && s.size == 0 && sizes[1] == 20,
+           "an infinite line");
 
     s = fratolivem_line_size(wall, CROSS_ITEMS(1));
     expect(s.number == 0 && s.where == 0 && s.place == 0 && s.size == 32, "a line's size");
     s = fratolivem_line_size(wall, CROSS_ITEMS(0));
     expect(s.number == 3 && s.where == FRATOLIVEM_AT && s.place == 1 && s.size == 0, "a margin that is none");
 
-    a = fratolivem_place_across(40, 0, CROSS_ITEMS(1), CODES(FRATOLIVEM_STRETCH, FRATOLIVEM_END), CODES(1, 0), sizes + 1, 2, start + 1, 2,
-                                end + 1, 2, offsets + 1, 2);
+    a = fratolivem_place_across(40, 0, CROSS_ITEMS(1), CODES(FRATOLIVEM_STRETCH, FRATOLIVEM_END), CODES(1, 0),
+                                sizes + 1, 2, start + 1, 2, end + 1, 2, offsets + 1, 2);
     expect(a.number == 0 && a.where == 0 && a.place == 0 && a.lines == 0 && a.rounds == 0, "items across");
-    expect(sizes[0] == 9 && sizes[1] == 42 && sizes[2] == 30 && sizes[3] == 9 && offsets[1] == 0 && offsets[2] == 0, "items across");
-    expect(start[0] == 9 && start[1] == 1 && start[2] == 8 && end[0] == 9 && end[1] == -3 && end[2] == 2, "items across");
-    a = fratolivem_place_across(40, 0, CROSS_ITEMS(1), CODES(0, 0), CODES(1, 0), sizes + 1, 2, start + 1, 1, end + 1, 2, offsets + 1, 2);
+    expect(sizes[0] == 9 && sizes[1] == 42 && sizes[2] == 30 && sizes[3] == 9 && offsets[1] == 0 && offsets[2] == 0,
+           "items across");
+    expect(start[0] == 9 && start[1] == 1 && start[2] == 8 && end[0] == 9 && end[1] == -3 && end[2] == 2,
+           "items across");
+    a = fratolivem_place_across(40, 0, CROSS_ITEMS(1), CODES(0, 0), CODES(1, 0), sizes + 1, 2, start + 1, 1, end + 1, 2,
+                                offsets + 1, 2);
     expect(a.number == 2 && a.where == FRATOLIVEM_CONTAINER && sizes[1] == 42, "items across without room");
 }
 
@@ -158,7 +169,8 @@ int main(void) {
     example("P7", FRATOLIVEM_MAX_CONTENT, NAN, 0, 9, LIST(5), COUNTS(1));
     example("P8", FRATOLIVEM_DEFINITE, 100, 0, 1, NULL, 0, NULL, 0);
     example("P9", FRATOLIVEM_MAX_CONTENT, NAN, 0, 0, LIST(5, 6), COUNTS(2));
-    example("an end that one start may use", FRATOLIVEM_DEFINITE, 90, 10, 1, LIST(30, 5, 40, 20, 0, 0, 35), COUNTS(2, 1, 4));
+    example("an end that one start may use", FRATOLIVEM_DEFINITE, 90, 10, 1, LIST(30, 5, 40, 20, 0, 0, 35),
+            COUNTS(2, 1, 4));
     example("min-content", FRATOLIVEM_MIN_CONTENT, NAN, 10, 1, LIST(30, 5, 40), COUNTS(1, 1, 1));
 
     dirty();
@@ -168,14 +180,20 @@ int main(void) {
 
     dirty();
     refused("NaN", fratolivem_greedy(FRATOLIVEM_DEFINITE, 100, 0, holed, 4, counts + 1, 4), 3, FRATOLIVEM_AT, 2);
-    refused("NaN, balanced", fratolivem_balanced(FRATOLIVEM_DEFINITE, 100, 0, 1, holed, 4, counts + 1, 4, work + 1, 28, sums + 1, 12), 3,
+    refused("NaN, balanced",
+            fratolivem_balanced(FRATOLIVEM_DEFINITE, 100, 0, 1, holed, 4, counts + 1, 4, work + 1, 28, sums + 1, 12), 3,
             FRATOLIVEM_AT, 2);
-    refused("off the grid", fratolivem_greedy(FRATOLIVEM_DEFINITE, 100, 0, holed + 3, 1, counts + 1, 1), 4, FRATOLIVEM_AT, 0);
-    refused("gap", fratolivem_greedy(FRATOLIVEM_DEFINITE, 100, -1, holed, 2, counts + 1, 2), 5, FRATOLIVEM_CONTAINER, 0);
-    refused("room", fratolivem_greedy(FRATOLIVEM_DEFINITE, 100, 0, holed, 4, counts + 1, 3), 2, FRATOLIVEM_CONTAINER, 0);
-    refused("work", fratolivem_balanced(FRATOLIVEM_DEFINITE, 100, 0, 1, holed, 4, counts + 1, 4, work + 1, 27, sums + 1, 12), 2,
+    refused("off the grid", fratolivem_greedy(FRATOLIVEM_DEFINITE, 100, 0, holed + 3, 1, counts + 1, 1), 4,
+            FRATOLIVEM_AT, 0);
+    refused("gap", fratolivem_greedy(FRATOLIVEM_DEFINITE, 100, -1, holed, 2, counts + 1, 2), 5, FRATOLIVEM_CONTAINER,
+            0);
+    refused("room", fratolivem_greedy(FRATOLIVEM_DEFINITE, 100, 0, holed, 4, counts + 1, 3), 2, FRATOLIVEM_CONTAINER,
+            0);
+    refused("work",
+            fratolivem_balanced(FRATOLIVEM_DEFINITE, 100, 0, 1, holed, 4, counts + 1, 4, work + 1, 27, sums + 1, 12), 2,
             FRATOLIVEM_CONTAINER, 0);
-    refused("sums", fratolivem_balanced(FRATOLIVEM_DEFINITE, 100, 0, 1, holed, 4, counts + 1, 4, work + 1, 28, sums + 1, 11), 2,
+    refused("sums",
+            fratolivem_balanced(FRATOLIVEM_DEFINITE, 100, 0, 1, holed, 4, counts + 1, 4, work + 1, 28, sums + 1, 11), 2,
             FRATOLIVEM_CONTAINER, 0);
     refused("kind", fratolivem_greedy(3, NAN, 0, holed, 2, counts + 1, 2), 5, FRATOLIVEM_CONTAINER, 0);
 

@@ -19,9 +19,15 @@ void examples() {
         uint32_t minimum;
         model::Counts counts;
     } table[] = {
-        {{70, 0, 20}, 100, 10, 1, {2, 1}}, {{150, 0, 30}, 100, 0, 1, {1, 2}},        {{70, 0, 0}, 100, 0, 2, {2, 1}},
-        {{10, 10, 10}, 100, 0, 2, {2, 1}}, {{50, 50, 50, 10}, 150, 0, 1, {2, 2}},    {{45, 45}, 100, 10, 1, {2}},
-        {{5}, inf, 0, 9, {1}},             {{}, 100, 0, 1, {}},                      {{5, 6}, inf, 0, 0, {2}},
+        {{70, 0, 20}, 100, 10, 1, {2, 1}},
+        {{150, 0, 30}, 100, 0, 1, {1, 2}},
+        {{70, 0, 0}, 100, 0, 2, {2, 1}},
+        {{10, 10, 10}, 100, 0, 2, {2, 1}},
+        {{50, 50, 50, 10}, 150, 0, 1, {2, 2}},
+        {{45, 45}, 100, 10, 1, {2}},
+        {{5}, inf, 0, 9, {1}},
+        {{}, 100, 0, 1, {}},
+        {{5, 6}, inf, 0, 0, {2}},
         {{30, 5, 40, 20, 0, 0, 35}, 90, 10, 1, {2, 1, 4}},
     };
     for (const auto &row : table) {
@@ -34,13 +40,16 @@ void examples() {
     expect(expected(p5, true, false).counts == model::Counts{3, 1}, "the model's greedy differs from document 01", p5);
 }
 
-// Every number that a check might get wrong, at every kind of place; and two of them at once, for the order of the checks.
+// Every number that a check might get wrong, at every kind of place; and two of them at once, for the order of the
+// checks.
 void numbers() {
     const uint32_t patterns[] = {
-        0x7fc00000, 0x7f800001, 0xffc12345, 0xff800001, 0x7fffffff, 0x7fa00000, 0x7f800000, 0xff800000, // NaNs, infinities
-        0x00000001, 0x80000001, 0x007fffff, 0x00800000, 0x3c7fffff, 0x3c800001, 0x3f800001, 0xbc000000, // off the grid
-        0x7f7fffff, 0xff7fffff, 0x71c9f2ca, 0x48800001, 0xc8800001, 0x48800000, 0xc8800000,             // large, and the border
-        0x80000000, 0x00000000, 0x3c800000, 0xbc800000, 0x42c80000, 0xc2c80000,                         // fine
+        0x7fc00000, 0x7f800001, 0xffc12345, 0xff800001, 0x7fffffff, 0x7fa00000, 0x7f800000,
+        0xff800000, // NaNs, infinities
+        0x00000001, 0x80000001, 0x007fffff, 0x00800000, 0x3c7fffff, 0x3c800001, 0x3f800001,
+        0xbc000000,                                                                         // off the grid
+        0x7f7fffff, 0xff7fffff, 0x71c9f2ca, 0x48800001, 0xc8800001, 0x48800000, 0xc8800000, // large, and the border
+        0x80000000, 0x00000000, 0x3c800000, 0xbc800000, 0x42c80000, 0xc2c80000,             // fine
     };
     for (uint32_t kind : {0u, 1u, 2u, 3u, 255u, 0x80000000u, 0xffffffffu})
         for (uint32_t one : patterns)
@@ -83,7 +92,8 @@ void lengths() {
     const float one[] = {1};
     uint32_t cell[4] = {9, 9, 9, 9};
     a = fratolivem_balanced(0, 1, 0, 1, one, 1, cell, 1, nullptr, 0, nullptr, 0);
-    expect(a.number == 2 && a.where == FRATOLIVEM_CONTAINER && cell[0] == 9, "balanced with NULL for its work cells", {});
+    expect(a.number == 2 && a.where == FRATOLIVEM_CONTAINER && cell[0] == 9, "balanced with NULL for its work cells",
+           {});
     a = fratolivem_balanced(0, 1, 0, 1, one, 1, cell, 1, cell + 1, 3, nullptr, 0);
     expect(a.number == 2 && cell[1] == 9, "balanced with NULL for its sums", {});
     Sizes many(70000, 1);
@@ -121,9 +131,11 @@ void sums_at_the_border() {
 
 // Every flag, kind and bound with every other; a third value of a flag is a code that no row names.
 void break_limits() {
-    const float values[] = {0.0f, -0.0f, 100, -40, 60.5f, 262144, 262144.03125f, 0.01f, NAN, of_bits(0x7f800001), -INFINITY};
+    const float values[] = {0.0f,     -0.0f, 100, -40, 60.5f, 262144, 262144.03125f, 0.01f, NAN, of_bits(0x7f800001),
+                            -INFINITY};
     const uint32_t kinds[] = {0, 1, 2, 3, 0xffffffff};
-    const std::size_t all = 3 * 3 * 3 * 3 * 3 * std::size(kinds) * std::size(values) * std::size(values) * std::size(values);
+    const std::size_t all =
+        3 * 3 * 3 * 3 * 3 * std::size(kinds) * std::size(values) * std::size(values) * std::size(values);
     for (std::size_t i = 0; i < all; i++) {
         std::size_t rest = i;
         const auto next = [&](std::size_t choices) {
@@ -133,7 +145,8 @@ void break_limits() {
         };
         const auto flag = [&] { return uint32_t(next(3)); };
         const auto value = [&] { return values[next(std::size(values))]; };
-        const model::Query q{flag(), flag(), flag(), kinds[next(std::size(kinds))], value(), flag(), value(), flag(), value()};
+        const model::Query q{flag(),  flag(), flag(), kinds[next(std::size(kinds))], value(), flag(),
+                             value(), flag(), value()};
         try_break_limit(q);
     }
 }
@@ -145,7 +158,8 @@ void random_lists(uint64_t seed, long lists) {
         try_both(c, {int(random() % 3), int(random() % 3), int(random() % 3)});
         if (c.sizes.size() && c.sizes.size() <= 12 && c.kind != 1) {
             const model::Items items(c.kind, c.limit, c.gap, c.sizes, true);
-            expect(model::balanced_by_table(items, model::line_count(items, c.minimum)) == model::balanced(items, c.minimum),
+            expect(model::balanced_by_table(items, model::line_count(items, c.minimum)) ==
+                       model::balanced(items, c.minimum),
                    "the model's two readings of the rule", c);
         }
     }
@@ -163,15 +177,18 @@ void cpp_header() {
     expect(g && lines == model::Counts{3, 1, 0, 0}, "the C++ greedy call", {});
     const std::array<float, 3> holed{5, NAN, 6};
     const auto r = balance(fratolivem::space::max_content(), 0, 1, holed, lines);
-    expect(!r && r.why() == fratolivem::refusal::not_finite && r.text() == "a number is NaN or infinite, at item 1", "words", {});
+    expect(!r && r.why() == fratolivem::refusal::not_finite && r.text() == "a number is NaN or infinite, at item 1",
+           "words", {});
     const auto limit = fratolivem::break_limit(true, false, true, fratolivem::space::definite(200), {}, 120.0f);
-    expect(limit && limit.value().kind == FRATOLIVEM_DEFINITE && limit.value().pixels == 120, "the C++ break limit", {});
+    expect(limit && limit.value().kind == FRATOLIVEM_DEFINITE && limit.value().pixels == 120, "the C++ break limit",
+           {});
     // A refused limit that is handed on unread is refused again.
     const auto refused = fratolivem::break_limit(true, true, true, fratolivem::space::definite(NAN));
     std::vector<float> one{5};
     std::vector<std::uint32_t> room{7};
     const auto again = fratolivem::greedy(refused.value(), 0, one, room);
-    expect(!refused && refused.why() == fratolivem::refusal::not_finite && again.why() == fratolivem::refusal::out_of_range && room[0] == 7,
+    expect(!refused && refused.why() == fratolivem::refusal::not_finite &&
+               again.why() == fratolivem::refusal::out_of_range && room[0] == 7,
            "a refused limit handed on", {});
     calls += 5;
 }

@@ -1,4 +1,5 @@
-// The calls of fratolivem.h, each made on lent lists with dirty cells and compared with the model: answer, place and every cell.
+// The calls of fratolivem.h, each made on lent lists with dirty cells and compared with the model: answer, place and
+// every cell.
 #ifndef CALLS_HPP
 #define CALLS_HPP
 
@@ -47,8 +48,11 @@ struct Expected {
 
 inline void compare(const char *what, const Call &c, const fratolivem_answer &a, const Expected &e) {
     calls++;
-    expect(a.number == e.refusal.number, (std::string(what) + ": the number is " + std::to_string(a.number) + " and not " +
-                                          std::to_string(e.refusal.number)).c_str(), c);
+    expect(a.number == e.refusal.number,
+           (std::string(what) + ": the number is " + std::to_string(a.number) + " and not " +
+            std::to_string(e.refusal.number))
+               .c_str(),
+           c);
     expect(a.where == e.refusal.where && a.place == e.refusal.place, (std::string(what) + ": place").c_str(), c);
     expect(a.lines == e.counts.size() && a.rounds == 0, (std::string(what) + ": lines or rounds").c_str(), c);
     expect(sizes.kept(), "the sizes were changed", c);
@@ -89,21 +93,23 @@ inline void try_balanced(const Call &c, Extra x = {}) {
     const bool room = counts.size() >= n && work.size() >= work_named && sums.size() >= sums_named;
     compare("balanced", c, a, expected(c, room, true));
     const bool accepted = a.number == 0;
-    expect(work.zero_up_to(accepted ? work_named : 0) && sums.zero_up_to(accepted ? sums_named : 0), "work cells are not 0", c);
-    expect(work.kept_from(accepted ? work_named : 0) && sums.kept_from(accepted ? sums_named : 0), "other work cells were changed", c);
+    expect(work.zero_up_to(accepted ? work_named : 0) && sums.zero_up_to(accepted ? sums_named : 0),
+           "work cells are not 0", c);
+    expect(work.kept_from(accepted ? work_named : 0) && sums.kept_from(accepted ? sums_named : 0),
+           "other work cells were changed", c);
 }
 
 inline void try_break_limit(const model::Query &q) {
     const auto e = model::break_limit(q);
-    const auto a = fratolivem_break_limit(q.known_is_definite, q.main_is_definite, q.is_row, q.available_kind, q.available,
-                                          q.has_minimum, q.minimum, q.has_maximum, q.maximum);
+    const auto a = fratolivem_break_limit(q.known_is_definite, q.main_is_definite, q.is_row, q.available_kind,
+                                          q.available, q.has_minimum, q.minimum, q.has_maximum, q.maximum);
     calls++;
     const bool same = a.number == e.number && a.where == e.where && a.place == e.place && a.kind == e.kind &&
                       model::bits(a.limit) == model::bits(e.limit);
     if (same || ++bad > 20) return;
-    std::printf("DIFFERS: break limit of known %u main %u row %u, kind %u %a, minimum %u %a, maximum %u %a\n", q.known_is_definite,
-                q.main_is_definite, q.is_row, q.available_kind, double(q.available), q.has_minimum, double(q.minimum), q.has_maximum,
-                double(q.maximum));
+    std::printf("DIFFERS: break limit of known %u main %u row %u, kind %u %a, minimum %u %a, maximum %u %a\n",
+                q.known_is_definite, q.main_is_definite, q.is_row, q.available_kind, double(q.available), q.has_minimum,
+                double(q.minimum), q.has_maximum, double(q.maximum));
 }
 
 inline void try_both(const Call &c, Extra x = {}) {

@@ -1,4 +1,5 @@
-// The calls of fratolivem.h that flex, each made on lent lists with dirty cells and compared with the model: answer, place and every cell.
+// The calls of fratolivem.h that flex, each made on lent lists with dirty cells and compared with the model: answer,
+// place and every cell.
 #ifndef FLEX_CALLS_HPP
 #define FLEX_CALLS_HPP
 
@@ -20,15 +21,16 @@ struct FlexCall {
 
 inline std::string shown(const FlexCall &c) {
     char text[160];
-    std::snprintf(text, sizeof text, "inner %a gap %a n %zu, %zu lines;", double(c.inner), double(c.gap), c.items.n(), c.counts.size());
+    std::snprintf(text, sizeof text, "inner %a gap %a n %zu, %zu lines;", double(c.inner), double(c.gap), c.items.n(),
+                  c.counts.size());
     std::string all = text;
     bool even = true;
     for (std::size_t length : c.items.lengths()) even = even && length == c.items.n();
     for (std::size_t i = 0; even && i < c.items.n() && i < 8; i++) {
         const auto it = c.items.at(i);
-        std::snprintf(text, sizeof text, " (%g %g %u:%g %g %g %g %u:%g %u:%g)", double(it.base), double(it.minimum), it.has_maximum,
-                      double(it.maximum), double(it.edges), double(it.grow), double(it.shrink), it.auto_start, double(it.start), it.auto_end,
-                      double(it.end));
+        std::snprintf(text, sizeof text, " (%g %g %u:%g %g %g %g %u:%g %u:%g)", double(it.base), double(it.minimum),
+                      it.has_maximum, double(it.maximum), double(it.edges), double(it.grow), double(it.shrink),
+                      it.auto_start, double(it.start), it.auto_end, double(it.end));
         all += text;
     }
     return all;
@@ -68,11 +70,11 @@ inline bool inputs_kept() {
     return kept;
 }
 
-#define ELEVEN_LISTS                                                                                                                      \
-    floats[0].data(), floats[0].size(), floats[1].data(), floats[1].size(), floats[2].data(), floats[2].size(), codes[0].data(),           \
-        codes[0].size(), floats[3].data(), floats[3].size(), floats[4].data(), floats[4].size(), floats[5].data(), floats[5].size(),       \
-        floats[6].data(), floats[6].size(), floats[7].data(), floats[7].size(), codes[1].data(), codes[1].size(), codes[2].data(),         \
-        codes[2].size()
+#define ELEVEN_LISTS                                                                                                   \
+    floats[0].data(), floats[0].size(), floats[1].data(), floats[1].size(), floats[2].data(), floats[2].size(),        \
+        codes[0].data(), codes[0].size(), floats[3].data(), floats[3].size(), floats[4].data(), floats[4].size(),      \
+        floats[5].data(), floats[5].size(), floats[6].data(), floats[6].size(), floats[7].data(), floats[7].size(),    \
+        codes[1].data(), codes[1].size(), codes[2].data(), codes[2].size()
 
 inline void try_line(const FlexCall &c, Extra x = {}) {
     lend(c);
@@ -80,7 +82,8 @@ inline void try_line(const FlexCall &c, Extra x = {}) {
     const auto a = fratolivem_flex_line(c.inner, c.gap, ELEVEN_LISTS, targets.data(), targets.size());
     const auto e = model::flex_line(c.inner, c.gap, c.items, targets.size());
     calls++;
-    expect(a.number == e.refusal.number, "flex_line: the number is " + std::to_string(a.number) + " and not " + std::to_string(e.refusal.number), c);
+    expect(a.number == e.refusal.number,
+           "flex_line: the number is " + std::to_string(a.number) + " and not " + std::to_string(e.refusal.number), c);
     expect(a.where == e.refusal.where && a.place == e.refusal.place, "flex_line: place", c);
     expect(a.free == e.free && a.rounds == e.rounds, "flex_line: free space or rounds", c);
     expect(a.number == 0 || (a.free == 0 && a.rounds == 0), "flex_line: a refusal tells of free space or rounds", c);
@@ -94,12 +97,14 @@ inline void try_lines(const FlexCall &c, Extra x = {}) {
     targets.lend(with(n, x.targets), any_stand());
     free_space.lend(with(n, x.free), any_stand());
     rounds.lend(with(n, x.rounds), any_stand());
-    const auto a = fratolivem_flex_lines(c.inner, c.gap, counts.data(), counts.size(), ELEVEN_LISTS, targets.data(), targets.size(),
-                                         free_space.data(), free_space.size(), rounds.data(), rounds.size());
+    const auto a =
+        fratolivem_flex_lines(c.inner, c.gap, counts.data(), counts.size(), ELEVEN_LISTS, targets.data(),
+                              targets.size(), free_space.data(), free_space.size(), rounds.data(), rounds.size());
     const std::size_t room = std::min(targets.size(), std::min(free_space.size(), rounds.size()));
     const auto e = model::flex_lines(c.inner, c.gap, c.counts, c.items, room);
     calls++;
-    expect(a.number == e.refusal.number, "flex_lines: the number is " + std::to_string(a.number) + " and not " + std::to_string(e.refusal.number), c);
+    expect(a.number == e.refusal.number,
+           "flex_lines: the number is " + std::to_string(a.number) + " and not " + std::to_string(e.refusal.number), c);
     expect(a.where == e.refusal.where && a.place == e.refusal.place, "flex_lines: place", c);
     expect(a.lines == e.lines && a.rounds == e.rounds, "flex_lines: lines or the sum of the rounds", c);
     expect(holds(targets, e.targets), a.number ? "flex_lines: a refusal changed a target" : "flex_lines: targets", c);

@@ -1,5 +1,6 @@
-// Document 01's flexible lengths (CSS-FLEX 9.7) of one line and of many, read anew in C++. Plain on purpose: f32 throughout, each operation
-// rounded once, every sum from item 0 upward, no code of the library. Compile without fast-math, and with -ffp-contract=off.
+// Document 01's flexible lengths (CSS-FLEX 9.7) of one line and of many, read anew in C++. Plain on purpose: f32
+// throughout, each operation rounded once, every sum from item 0 upward, no code of the library. Compile without
+// fast-math, and with -ffp-contract=off.
 #ifndef FLEX_MODEL_HPP
 #define FLEX_MODEL_HPP
 
@@ -24,13 +25,15 @@ struct FlexLists {
 
     void add(const FlexItem &it) {
         base.push_back(it.base), minimum.push_back(it.minimum), maximum.push_back(it.maximum);
-        has_maximum.push_back(it.has_maximum), edges.push_back(it.edges), grow.push_back(it.grow), shrink.push_back(it.shrink);
-        start.push_back(it.start), end.push_back(it.end), auto_start.push_back(it.auto_start), auto_end.push_back(it.auto_end);
+        has_maximum.push_back(it.has_maximum), edges.push_back(it.edges), grow.push_back(it.grow),
+            shrink.push_back(it.shrink);
+        start.push_back(it.start), end.push_back(it.end), auto_start.push_back(it.auto_start),
+            auto_end.push_back(it.auto_end);
     }
     std::size_t n() const { return base.size(); }
     std::vector<std::size_t> lengths() const {
-        return {base.size(), minimum.size(), maximum.size(), has_maximum.size(), edges.size(),     grow.size(),
-                shrink.size(), start.size(), end.size(),     auto_start.size(),  auto_end.size()};
+        return {base.size(),   minimum.size(), maximum.size(), has_maximum.size(), edges.size(),   grow.size(),
+                shrink.size(), start.size(),   end.size(),     auto_start.size(),  auto_end.size()};
     }
     FlexItem at(std::size_t i) const {
         return {base[i],   minimum[i], maximum[i], has_maximum[i], edges[i],   grow[i],
@@ -60,8 +63,9 @@ struct Flexing {
     bool frozen = false;
 
     explicit Flexing(const FlexItem &it)
-        : base(cleaned(it.base)), inner_base(base - cleaned(it.edges)), margins(margins_of(it.start, it.auto_start, it.end, it.auto_end)),
-          grow(cleaned(it.grow)), shrink(cleaned(it.shrink)), minimum(cleaned(it.minimum)), maximum(cleaned(it.maximum)),
+        : base(cleaned(it.base)), inner_base(base - cleaned(it.edges)),
+          margins(margins_of(it.start, it.auto_start, it.end, it.auto_end)), grow(cleaned(it.grow)),
+          shrink(cleaned(it.shrink)), minimum(cleaned(it.minimum)), maximum(cleaned(it.maximum)),
           edges(cleaned(it.edges)), has_maximum(it.has_maximum), hypothetical(clamped(base)), target(hypothetical) {
         if (inner_base < 0.0f) inner_base = 0.0f;
     }
@@ -195,7 +199,8 @@ struct FlexLinesAnswer {
 };
 
 // Many lines; `room` is the number of cells of the shortest lent list.
-inline FlexLinesAnswer flex_lines(float inner, float gap, const Counts &counts, const FlexLists &lists, std::size_t room) {
+inline FlexLinesAnswer flex_lines(float inner, float gap, const Counts &counts, const FlexLists &lists,
+                                  std::size_t room) {
     FlexLinesAnswer a;
     a.refusal = check_flexing(inner, gap, &counts, lists, room >= lists.n());
     if (a.refusal.number) return a;

@@ -48,7 +48,8 @@ void examples() {
 }
 
 FlexCall five() {
-    FlexCall c = call(400, 8, {item(30, 1, 1), item(20, 0, 2), item(40, 0.5f, 0), item(25, 2, 1), item(10, 1, 0.25f)}, {2, 3});
+    FlexCall c =
+        call(400, 8, {item(30, 1, 1), item(20, 0, 2), item(40, 0.5f, 0), item(25, 2, 1), item(10, 1, 0.25f)}, {2, 3});
     for (std::size_t i = 0; i < 5; i++) {
         c.items.minimum[i] = 5, c.items.maximum[i] = 300, c.items.has_maximum[i] = i % 2;
         c.items.edges[i] = 4, c.items.start[i] = i == 3 ? -6 : 6, c.items.end[i] = 2;
@@ -56,18 +57,21 @@ FlexCall five() {
     return c;
 }
 
-// Every number that a check might get wrong, at every kind of place; and two of them at once, for the order of the checks.
+// Every number that a check might get wrong, at every kind of place; and two of them at once, for the order of the
+// checks.
 void numbers() {
     const uint32_t patterns[] = {
-        0x7fc00000, 0x7f800001, 0xffc12345, 0xff800001, 0x7f800000, 0xff800000,             // NaNs, infinities
-        0x00000001, 0x80000001, 0x007fffff, 0x3c800001, 0x3f800001, 0xbc000000,             // off the grid
-        0x7f7fffff, 0xff7fffff, 0x48800001, 0xc8800001, 0x48800000, 0xc8800000,             // large, and the border of lengths
-        0x48000000, 0xc8000000, 0x48000001, 0xc8000001, 0x44800000, 0x44800001, 0xc4800000, // those of margins and of factors
-        0x80000000, 0x00000000, 0x3c800000, 0xbc800000, 0x42c80000, 0xc2c80000,             // fine as lengths
+        0x7fc00000, 0x7f800001, 0xffc12345, 0xff800001, 0x7f800000, 0xff800000, // NaNs, infinities
+        0x00000001, 0x80000001, 0x007fffff, 0x3c800001, 0x3f800001, 0xbc000000, // off the grid
+        0x7f7fffff, 0xff7fffff, 0x48800001, 0xc8800001, 0x48800000, 0xc8800000, // large, and the border of lengths
+        0x48000000, 0xc8000000, 0x48000001, 0xc8000001, 0x44800000, 0x44800001,
+        0xc4800000,                                                             // those of margins and of factors
+        0x80000000, 0x00000000, 0x3c800000, 0xbc800000, 0x42c80000, 0xc2c80000, // fine as lengths
     };
     const auto places = [](FlexCall &c) {
         std::vector<float *> at{&c.inner, &c.gap};
-        for (auto *list : {&c.items.base, &c.items.minimum, &c.items.maximum, &c.items.edges, &c.items.grow, &c.items.shrink, &c.items.start, &c.items.end})
+        for (auto *list : {&c.items.base, &c.items.minimum, &c.items.maximum, &c.items.edges, &c.items.grow,
+                           &c.items.shrink, &c.items.start, &c.items.end})
             for (std::size_t i : {0, 3}) at.push_back(&(*list)[i]);
         return at;
     };
@@ -78,7 +82,8 @@ void numbers() {
             FlexCall c = five();
             *places(c)[p] = of_bits(one);
             try_both(c);
-            for (std::size_t i = 0; i < 5; i++) c.items.has_maximum[i] ^= 1, c.items.auto_start[i] = 1, c.items.auto_end[i] = i % 2;
+            for (std::size_t i = 0; i < 5; i++)
+                c.items.has_maximum[i] ^= 1, c.items.auto_start[i] = 1, c.items.auto_end[i] = i % 2;
             try_both(c);
             for (std::size_t q = 0; q < all; q += 1 + p % 3) {
                 FlexCall d = five();
@@ -100,20 +105,26 @@ void numbers() {
                 }
 }
 
-// Lists of every length that a check turns on, each of the eleven shorter and longer in turn, and each lent list too short.
+// Lists of every length that a check turns on, each of the eleven shorter and longer in turn, and each lent list too
+// short.
 void lengths() {
     for (std::size_t n : {0, 1, 2, 63, 64, 1023, 1024, 1025, 1090}) {
         const FlexCall even = call(200, 0.5f, std::vector<FlexItem>(n, item(n > 1000 ? 0.25f : 1.5f, 1, 1)));
-        for (Extra x : {Extra{}, Extra{-1, 0, 0}, Extra{0, -1, 0}, Extra{0, 0, -1}, Extra{3, 5, 7}, Extra{-1, -1, -1}}) try_both(even, x);
+        for (Extra x : {Extra{}, Extra{-1, 0, 0}, Extra{0, -1, 0}, Extra{0, 0, -1}, Extra{3, 5, 7}, Extra{-1, -1, -1}})
+            try_both(even, x);
         for (int list = 0; list < 11; list++)
             for (int by : {-1, 1, 2}) {
                 FlexCall c = even;
-                std::vector<float> *f[] = {&c.items.base, &c.items.minimum, &c.items.maximum, nullptr, &c.items.edges, &c.items.grow,
-                                           &c.items.shrink, &c.items.start, &c.items.end, nullptr, nullptr};
-                std::vector<uint32_t> *u[] = {nullptr, nullptr, nullptr, &c.items.has_maximum, nullptr, nullptr, nullptr, nullptr, nullptr,
-                                              &c.items.auto_start, &c.items.auto_end};
-                if (f[list]) f[list]->resize(with(n, by), 1.0f);
-                else u[list]->resize(with(n, by), 0);
+                std::vector<float> *f[] = {&c.items.base,  &c.items.minimum, &c.items.maximum, nullptr,
+                                           &c.items.edges, &c.items.grow,    &c.items.shrink,  &c.items.start,
+                                           &c.items.end,   nullptr,          nullptr};
+                std::vector<uint32_t> *u[] = {
+                    nullptr, nullptr, nullptr, &c.items.has_maximum, nullptr,          nullptr,
+                    nullptr, nullptr, nullptr, &c.items.auto_start,  &c.items.auto_end};
+                if (f[list])
+                    f[list]->resize(with(n, by), 1.0f);
+                else
+                    u[list]->resize(with(n, by), 0);
                 try_both(c);
             }
     }
@@ -130,17 +141,19 @@ void lengths() {
 
     // A list of no cells may be NULL, also where cells were wanted.
     const FlexCall none{};
-    auto a = fratolivem_flex_line(10, 1, nullptr, 0, nullptr, 0, nullptr, 0, nullptr, 0, nullptr, 0, nullptr, 0, nullptr, 0, nullptr, 0,
-                                  nullptr, 0, nullptr, 0, nullptr, 0, nullptr, 0);
+    auto a = fratolivem_flex_line(10, 1, nullptr, 0, nullptr, 0, nullptr, 0, nullptr, 0, nullptr, 0, nullptr, 0,
+                                  nullptr, 0, nullptr, 0, nullptr, 0, nullptr, 0, nullptr, 0, nullptr, 0);
     expect(a.number == 0 && a.free == 640 && a.rounds == 0, "a line of NULLs", none);
-    a = fratolivem_flex_line(NAN, 1, nullptr, 0, nullptr, 0, nullptr, 0, nullptr, 0, nullptr, 0, nullptr, 0, nullptr, 0, nullptr, 0, nullptr,
-                             0, nullptr, 0, nullptr, 0, nullptr, 0);
-    expect(a.number == 3 && a.where == FRATOLIVEM_CONTAINER && a.free == 0, "a line of NULLs in a size that is none", none);
+    a = fratolivem_flex_line(NAN, 1, nullptr, 0, nullptr, 0, nullptr, 0, nullptr, 0, nullptr, 0, nullptr, 0, nullptr, 0,
+                             nullptr, 0, nullptr, 0, nullptr, 0, nullptr, 0, nullptr, 0);
+    expect(a.number == 3 && a.where == FRATOLIVEM_CONTAINER && a.free == 0, "a line of NULLs in a size that is none",
+           none);
     lend(call(10, 1, {item(5, 1, 1)}));
     a = fratolivem_flex_line(10, 1, ELEVEN_LISTS, nullptr, 0);
     expect(a.number == 2 && a.where == FRATOLIVEM_CONTAINER, "a line with NULL for its targets", none);
-    const auto l = fratolivem_flex_lines(10, 1, nullptr, 0, nullptr, 0, nullptr, 0, nullptr, 0, nullptr, 0, nullptr, 0, nullptr, 0, nullptr, 0,
-                                         nullptr, 0, nullptr, 0, nullptr, 0, nullptr, 0, nullptr, 0, nullptr, 0, nullptr, 0);
+    const auto l = fratolivem_flex_lines(10, 1, nullptr, 0, nullptr, 0, nullptr, 0, nullptr, 0, nullptr, 0, nullptr, 0,
+                                         nullptr, 0, nullptr, 0, nullptr, 0, nullptr, 0, nullptr, 0, nullptr, 0,
+                                         nullptr, 0, nullptr, 0, nullptr, 0);
     expect(l.number == 0 && l.lines == 0 && l.rounds == 0, "lines of NULLs", none);
     calls += 4;
 }
@@ -148,9 +161,24 @@ void lengths() {
 // Counts that divide the items, and counts that do not.
 void divisions() {
     const std::vector<FlexItem> nine(9, item(20, 1, 1));
-    for (const model::Counts &counts :
-         {model::Counts{9}, {1, 1, 1, 1, 1, 1, 1, 1, 1}, {4, 5}, {5, 4}, {2, 3, 4}, {8, 1}, {0, 9}, {9, 0}, {4, 0, 5}, {4, 4}, {5, 5}, {10}, {8}, {0},
-          {0xffffffffu, 10}, {0x80000000u, 0x80000000u, 9}, {1, 1, 1, 1, 1, 1, 1, 1, 1, 0}, {1, 1, 1, 1, 1, 1, 1, 1, 1, 1}})
+    for (const model::Counts &counts : {model::Counts{9},
+                                        {1, 1, 1, 1, 1, 1, 1, 1, 1},
+                                        {4, 5},
+                                        {5, 4},
+                                        {2, 3, 4},
+                                        {8, 1},
+                                        {0, 9},
+                                        {9, 0},
+                                        {4, 0, 5},
+                                        {4, 4},
+                                        {5, 5},
+                                        {10},
+                                        {8},
+                                        {0},
+                                        {0xffffffffu, 10},
+                                        {0x80000000u, 0x80000000u, 9},
+                                        {1, 1, 1, 1, 1, 1, 1, 1, 1, 0},
+                                        {1, 1, 1, 1, 1, 1, 1, 1, 1, 1}})
         for (float inner : {100.0f, NAN, 0.01f, -1.0f}) {
             FlexCall c = call(inner, 2, nine, counts);
             try_lines(c);
@@ -198,7 +226,9 @@ FlexCall random_call(std::mt19937_64 &random, std::size_t longest) {
     const int unit = std::array{1, 64, 37}[below(3)];
     const int sizes = int(1 + below(n > 64 ? 12 : 200)), flavour = int(below(4));
     FlexCall c{0, below(2) ? 0.0f : float(below(4)) * float(unit) / 64, {}, {}};
-    const auto length = [&] { return below(5) ? float(int(below(uint64_t(sizes))) * unit) / 64 : below(2) ? 0.0f : -0.0f; };
+    const auto length = [&] {
+        return below(5) ? float(int(below(uint64_t(sizes))) * unit) / 64 : below(2) ? 0.0f : -0.0f;
+    };
     const auto factor = [&] {
         switch (flavour ? below(5) : 4) {
         case 0: return 0.0f;
@@ -222,7 +252,8 @@ FlexCall random_call(std::mt19937_64 &random, std::size_t longest) {
         it.start = it.auto_start ? of_bits(uint32_t(random())) : below(3) ? 0.0f : (below(2) ? 1.0f : -1.0f) * length();
         it.end = it.auto_end ? of_bits(uint32_t(random())) : below(3) ? 0.0f : (below(2) ? 1.0f : -1.0f) * length();
         c.items.add(it);
-        used += double(model::clamp(it.base, it.has_maximum, it.maximum, it.minimum, it.edges)) + (it.auto_start ? 0 : double(it.start)) + (it.auto_end ? 0 : double(it.end));
+        used += double(model::clamp(it.base, it.has_maximum, it.maximum, it.minimum, it.edges)) +
+                (it.auto_start ? 0 : double(it.start)) + (it.auto_end ? 0 : double(it.end));
     }
     for (std::size_t left = n; left;) {
         const std::size_t take = 1 + below(below(3) ? std::min<std::size_t>(left, 8) : left);
@@ -246,7 +277,8 @@ void random_lists(uint64_t seed, long lists) {
 void cpp_header() {
     const FlexCall c = call(300, 0, {item(100, 1, 1), item(100, 3, 1), item(50, 0, 1)}, {2, 1});
     const auto &l = c.items;
-    const fratolivem::flex_columns columns{l.base, l.minimum, l.maximum, l.has_maximum, l.edges, l.grow, l.shrink, l.start, l.end, l.auto_start, l.auto_end};
+    const fratolivem::flex_columns columns{l.base,   l.minimum, l.maximum, l.has_maximum, l.edges,   l.grow,
+                                           l.shrink, l.start,   l.end,     l.auto_start,  l.auto_end};
     std::vector<float> sizes(3), again(3);
     const auto a = fratolivem::flex_line(c.inner, c.gap, columns, sizes);
     const auto e = model::flex_line(c.inner, c.gap, l, 3);
@@ -254,7 +286,9 @@ void cpp_header() {
     std::vector<int32_t> space(3);
     std::vector<uint32_t> turns(3);
     const auto m = fratolivem::flex_lines(c.inner, c.gap, c.counts, columns, again, space, turns);
-    expect(m && m.lines == 2 && again == std::vector<float>{125, 175, 50} && space == std::vector<int32_t>{6400, 16000, 0}, "the C++ flex_lines", c);
+    expect(m && m.lines == 2 && again == std::vector<float>{125, 175, 50} &&
+               space == std::vector<int32_t>{6400, 16000, 0},
+           "the C++ flex_lines", c);
     auto uneven = columns;
     uneven.end = {};
     const auto r = fratolivem::flex_line(c.inner, c.gap, uneven, sizes);

@@ -1,4 +1,5 @@
-// Lists to lend, each with canary cells round it or right beside a page that nobody may touch: a read or store past a list is seen.
+// Lists to lend, each with canary cells round it or right beside a page that nobody may touch: a read or store past a
+// list is seen.
 #ifndef LENT_HPP
 #define LENT_HPP
 

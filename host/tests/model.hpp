@@ -1,5 +1,5 @@
-// Document 01's refusals, break limit and breaking, read anew in C++: what the boundary tests compare with.
-// Plain and slow on purpose: whole sixty-fourths in 64-bit integers, no midpoint search, no float sum, no code of the library.
+// Document 01's refusals, break limit and breaking, read anew in C++: what the boundary tests compare with. Plain and
+// slow on purpose: whole sixty-fourths in 64-bit integers, no midpoint search, no float sum, no code of the library.
 #ifndef MODEL_HPP
 #define MODEL_HPP
 
@@ -46,7 +46,8 @@ struct Refusal {
 };
 
 // Checks 3 to 5: one after the other over the whole input, the container first. A bad code is a number out of range.
-inline Refusal check_numbers(const std::vector<Number> &container, bool codes_are_known, const std::vector<float> &sizes) {
+inline Refusal check_numbers(const std::vector<Number> &container, bool codes_are_known,
+                             const std::vector<float> &sizes) {
     for (int check = 3; check <= 5; check++) {
         for (Number x : container)
             if (!passes(check, x)) return {uint32_t(check), FRATOLIVEM_CONTAINER, 0};
@@ -151,7 +152,8 @@ inline Counts balanced_by_table(const Items &items, std::size_t k) {
                 const int64_t rest = after ? least[after - 1][t] : 0;
                 if (rest == none || !items.valid_line(s, t, after)) continue;
                 const int64_t total = items.score(s, t) + rest;
-                if (least[after][s] == none || total <= least[after][s]) least[after][s] = total, end[after][s] = uint32_t(t);
+                if (least[after][s] == none || total <= least[after][s])
+                    least[after][s] = total, end[after][s] = uint32_t(t);
             }
     Counts counts;
     std::size_t s = 0;

@@ -1,5 +1,6 @@
-// Document 01's checks 3 to 5 over whatever numbers a call takes, read anew in C++ for the calls beyond breaking (model.hpp has those of
-// breaking). A caller lists its numbers, the container's first, then item after item; nothing here knows a call.
+// Document 01's checks 3 to 5 over whatever numbers a call takes, read anew in C++ for the calls beyond breaking
+// (model.hpp has those of breaking). A caller lists its numbers, the container's first, then item after item; nothing
+// here knows a call.
 #ifndef NUMBER_MODEL_HPP
 #define NUMBER_MODEL_HPP
 
@@ -16,7 +17,8 @@ namespace model {
 // "-0.0 reads as 0, and an answer that would be -0.0 is 0.0".
 inline float cleaned(float x) { return x == 0.0f ? 0.0f : x; }
 
-constexpr double longest_length = 262144.0, longest_margin = 131072.0, largest_factor = 1024.0, longest_worked = 16777216.0;
+constexpr double longest_length = 262144.0, longest_margin = 131072.0, largest_factor = 1024.0,
+                 longest_worked = 16777216.0;
 
 // One number that a call takes.
 struct Taken {
@@ -53,7 +55,8 @@ public:
     Refusal check() const {
         for (int number = 3; number <= 5; number++)
             for (const Taken &x : all_)
-                if (!passes(number, x)) return x.at < 0 ? refused(number) : Refusal{uint32_t(number), FRATOLIVEM_AT, uint32_t(x.at)};
+                if (!passes(number, x))
+                    return x.at < 0 ? refused(number) : Refusal{uint32_t(number), FRATOLIVEM_AT, uint32_t(x.at)};
         return {};
     }
 

@@ -25,23 +25,25 @@ struct Container {
     bool reversed() const { return direction == 1 || direction == 3; }
     bool balanced() const { return wrap == 3 || wrap == 4; }
     CrossContainer cross() const {
-        return {inner_cross, has_inner_cross, minimum_cross, has_minimum_cross, maximum_cross, has_maximum_cross, gap_cross, wrap};
+        return {inner_cross,   has_inner_cross,   minimum_cross, has_minimum_cross,
+                maximum_cross, has_maximum_cross, gap_cross,     wrap};
     }
 };
 
 // The record, 14 floats and 8 codes, as it lies in memory.
 struct Item {
-    float main_base = 0, main_minimum = 0, main_maximum = 0, main_edges = 0, grow = 0, shrink = 0, main_start = 0, main_end = 0;
+    float main_base = 0, main_minimum = 0, main_maximum = 0, main_edges = 0, grow = 0, shrink = 0, main_start = 0,
+          main_end = 0;
     float cross_measured = 0, cross_minimum = 0, cross_maximum = 0, cross_edges = 0, cross_start = 0, cross_end = 0;
     uint32_t has_main_maximum = 0, auto_main_start = 0, auto_main_end = 0;
     uint32_t has_cross_maximum = 0, auto_cross_start = 0, auto_cross_end = 0, align_self = 0, auto_cross_size = 0;
 
     FlexItem main() const {
-        return {main_base, main_minimum, main_maximum, has_main_maximum, main_edges, grow,
+        return {main_base, main_minimum, main_maximum, has_main_maximum, main_edges,   grow,
                 shrink,    main_start,   main_end,     auto_main_start,  auto_main_end};
     }
     CrossItem cross() const {
-        return {cross_measured, cross_minimum,    cross_maximum,  has_cross_maximum, cross_edges,     cross_start,
+        return {cross_measured, cross_minimum,    cross_maximum,  has_cross_maximum, cross_edges,    cross_start,
                 cross_end,      auto_cross_start, auto_cross_end, align_self,        auto_cross_size};
     }
 };
@@ -90,8 +92,8 @@ struct Passed {
     Refusal refusal;
     uint32_t lines_made = 0, rounds_made = 0;
     float inner_cross = 0.0f;
-    // The lent lists as named: eight lists of n (main size, main offset, main start and end margin, then the same across), two of n (cross
-    // sizes and cross offsets by line), and the by-line lists, 0 past the last line.
+    // The lent lists as named: eight lists of n (main size, main offset, main start and end margin, then the same
+    // across), two of n (cross sizes and cross offsets by line), and the by-line lists, 0 past the last line.
     std::vector<float> placed, lines;
     std::vector<uint32_t> counts, rounds;
     std::vector<int32_t> free;

@@ -1,4 +1,5 @@
-// The calls of fratolivem.h that place, each made on lent lists with dirty cells and compared with the model: answer, place and every cell.
+// The calls of fratolivem.h that place, each made on lent lists with dirty cells and compared with the model: answer,
+// place and every cell.
 #ifndef PLACE_CALLS_HPP
 #define PLACE_CALLS_HPP
 
@@ -53,13 +54,14 @@ std::string listed(const char *name, const std::vector<T> &list) {
 }
 
 inline std::string shown(const model::CrossContainer &c) {
-    return words("inner %u:%g minimum %u:%g maximum %u:%g gap %g wrap %u;", c.has_inner, double(c.inner), c.has_minimum, double(c.minimum),
-                 c.has_maximum, double(c.maximum), double(c.gap), c.wrap);
+    return words("inner %u:%g minimum %u:%g maximum %u:%g gap %g wrap %u;", c.has_inner, double(c.inner), c.has_minimum,
+                 double(c.minimum), c.has_maximum, double(c.maximum), double(c.gap), c.wrap);
 }
 inline std::string shown(const model::CrossLists &l) {
-    return listed("measured", l.measured) + listed("minimum", l.minimum) + listed("maximum", l.maximum) + listed("has", l.has_maximum) +
-           listed("edges", l.edges) + listed("start", l.start) + listed("end", l.end) + listed("auto", l.auto_start) + listed("auto", l.auto_end) +
-           listed("align", l.align_self) + listed("auto_size", l.auto_size);
+    return listed("measured", l.measured) + listed("minimum", l.minimum) + listed("maximum", l.maximum) +
+           listed("has", l.has_maximum) + listed("edges", l.edges) + listed("start", l.start) + listed("end", l.end) +
+           listed("auto", l.auto_start) + listed("auto", l.auto_end) + listed("align", l.align_self) +
+           listed("auto_size", l.auto_size);
 }
 inline std::string shown(const MainCall &c) {
     return words("inner %a gap %a justify %u reversed %u;", double(c.inner), double(c.gap), c.justify, c.reversed) +
@@ -67,8 +69,12 @@ inline std::string shown(const MainCall &c) {
            listed("auto", c.items.auto_start) + listed("auto", c.items.auto_end);
 }
 inline std::string shown(const SizeCall &c) { return shown(c.container) + shown(c.items); }
-inline std::string shown(const LinesCall &c) { return shown(c.container) + words(" align %u", c.align_content) + listed("lines", c.lines); }
-inline std::string shown(const AcrossCall &c) { return words("line %a reversed %u;", double(c.line), c.reversed) + shown(c.items); }
+inline std::string shown(const LinesCall &c) {
+    return shown(c.container) + words(" align %u", c.align_content) + listed("lines", c.lines);
+}
+inline std::string shown(const AcrossCall &c) {
+    return words("line %a reversed %u;", double(c.line), c.reversed) + shown(c.items);
+}
 
 template <class Call>
 void expect(bool ok, const char *what, const Call &c) {
@@ -81,19 +87,23 @@ void expect(bool ok, const char *what, const Call &c) {
 constexpr std::size_t most = 1100;
 inline std::array<Lent<float>, 6> floats{Lent<float>(most), Lent<float>(most), Lent<float>(most),
                                          Lent<float>(most), Lent<float>(most), Lent<float>(most)};
-inline std::array<Lent<uint32_t>, 5> codes{Lent<uint32_t>(most), Lent<uint32_t>(most), Lent<uint32_t>(most), Lent<uint32_t>(most),
-                                           Lent<uint32_t>(most)};
+inline std::array<Lent<uint32_t>, 5> codes{Lent<uint32_t>(most), Lent<uint32_t>(most), Lent<uint32_t>(most),
+                                           Lent<uint32_t>(most), Lent<uint32_t>(most)};
 inline std::array<Lent<float>, 4> answers{Lent<float>(most), Lent<float>(most), Lent<float>(most), Lent<float>(most)};
 
 template <class List>
 auto floats_of(List &l) -> std::vector<decltype(&l.start)> {
-    if constexpr (std::is_same_v<std::remove_const_t<List>, model::MainLists>) return {&l.targets, &l.start, &l.end};
-    else return {&l.measured, &l.minimum, &l.maximum, &l.edges, &l.start, &l.end};
+    if constexpr (std::is_same_v<std::remove_const_t<List>, model::MainLists>)
+        return {&l.targets, &l.start, &l.end};
+    else
+        return {&l.measured, &l.minimum, &l.maximum, &l.edges, &l.start, &l.end};
 }
 template <class List>
 auto codes_of(List &l) -> std::vector<decltype(&l.auto_start)> {
-    if constexpr (std::is_same_v<std::remove_const_t<List>, model::MainLists>) return {&l.auto_start, &l.auto_end};
-    else return {&l.has_maximum, &l.auto_start, &l.auto_end, &l.align_self, &l.auto_size};
+    if constexpr (std::is_same_v<std::remove_const_t<List>, model::MainLists>)
+        return {&l.auto_start, &l.auto_end};
+    else
+        return {&l.has_maximum, &l.auto_start, &l.auto_end, &l.align_self, &l.auto_size};
 }
 
 template <class List>
@@ -125,9 +135,9 @@ inline bool lend_answers(std::size_t lists, std::size_t n, const Extra &x) {
 }
 
 #define CELLS(list) list.data(), list.size()
-#define NINE_LISTS                                                                                                                        \
-    CELLS(floats[0]), CELLS(floats[1]), CELLS(floats[2]), CELLS(codes[0]), CELLS(floats[3]), CELLS(floats[4]), CELLS(floats[5]),            \
-        CELLS(codes[1]), CELLS(codes[2])
+#define NINE_LISTS                                                                                                     \
+    CELLS(floats[0]), CELLS(floats[1]), CELLS(floats[2]), CELLS(codes[0]), CELLS(floats[3]), CELLS(floats[4]),         \
+        CELLS(floats[5]), CELLS(codes[1]), CELLS(codes[2])
 #define ELEVEN_LISTS NINE_LISTS, CELLS(codes[3]), CELLS(codes[4])
 
 // ---- the calls
@@ -144,15 +154,18 @@ void compare(const Answer &a, const model::Refusal &e, const Call &c) {
 template <class Call>
 void compare_cells(const std::vector<std::vector<float>> &cells, uint32_t refused, const Call &c) {
     for (std::size_t i = 0; i < cells.size(); i++)
-        if (refused) expect(answers[i].kept(), words("a refusal changed list %zu", i).c_str(), c);
-        else expect(holds(answers[i], cells[i]), words("answer list %zu", i).c_str(), c);
+        if (refused)
+            expect(answers[i].kept(), words("a refusal changed list %zu", i).c_str(), c);
+        else
+            expect(holds(answers[i], cells[i]), words("answer list %zu", i).c_str(), c);
 }
 
 inline void try_main(const MainCall &c, const Extra &x = {}) {
     lend(c.items);
     const bool room = lend_answers(3, c.items.n(), x);
-    const auto a = fratolivem_place_main(c.inner, c.gap, c.justify, c.reversed, CELLS(floats[0]), CELLS(floats[1]), CELLS(floats[2]),
-                                         CELLS(codes[0]), CELLS(codes[1]), CELLS(answers[0]), CELLS(answers[1]), CELLS(answers[2]));
+    const auto a = fratolivem_place_main(c.inner, c.gap, c.justify, c.reversed, CELLS(floats[0]), CELLS(floats[1]),
+                                         CELLS(floats[2]), CELLS(codes[0]), CELLS(codes[1]), CELLS(answers[0]),
+                                         CELLS(answers[1]), CELLS(answers[2]));
     const auto e = model::check_main(c.inner, c.gap, c.justify, c.reversed, c.items, room);
     compare(a, e, c);
     expect(a.lines == 0 && a.rounds == 0, "place_main: lines or rounds", c);
@@ -169,14 +182,17 @@ inline void try_size(const SizeCall &c) {
     const auto a = fratolivem_line_size(crossed(c.container), NINE_LISTS);
     const auto e = model::check_cross_size(c.container, c.items);
     compare(a, e, c);
-    expect(model::bits(a.size) == model::bits(e.number ? 0.0f : model::cross_size(c.container, c.items, 0, c.items.n())), "line_size: size", c);
+    expect(model::bits(a.size) ==
+               model::bits(e.number ? 0.0f : model::cross_size(c.container, c.items, 0, c.items.n())),
+           "line_size: size", c);
 }
 
 inline void try_lines(const LinesCall &c, const Extra &x = {}) {
     lend(model::CrossLists{});
     floats[0].lend(c.lines, any_stand());
     const bool room = lend_answers(2, c.lines.size(), x);
-    const auto a = fratolivem_place_lines(crossed(c.container), c.align_content, CELLS(floats[0]), CELLS(answers[0]), CELLS(answers[1]));
+    const auto a = fratolivem_place_lines(crossed(c.container), c.align_content, CELLS(floats[0]), CELLS(answers[0]),
+                                          CELLS(answers[1]));
     const auto e = model::check_lines(c.container, c.align_content, c.lines, room);
     compare(a, e, c);
     const auto p = e.number ? model::PlacedLines{} : model::place_lines(c.container, c.align_content, c.lines);
@@ -187,15 +203,16 @@ inline void try_lines(const LinesCall &c, const Extra &x = {}) {
 inline void try_across(const AcrossCall &c, const Extra &x = {}) {
     lend(c.items);
     const bool room = lend_answers(4, c.items.n(), x);
-    const auto a = fratolivem_place_across(c.line, c.reversed, ELEVEN_LISTS, CELLS(answers[0]), CELLS(answers[1]), CELLS(answers[2]),
-                                           CELLS(answers[3]));
+    const auto a = fratolivem_place_across(c.line, c.reversed, ELEVEN_LISTS, CELLS(answers[0]), CELLS(answers[1]),
+                                           CELLS(answers[2]), CELLS(answers[3]));
     const auto e = model::check_across(c.line, c.reversed, 1, c.items, room);
     compare(a, e, c);
     expect(a.lines == 0 && a.rounds == 0, "place_across: lines or rounds", c);
     std::vector<std::vector<float>> cells(4);
     for (std::size_t i = 0; !e.number && i < c.items.n(); i++) {
         const auto p = model::place_item(c.line, c.reversed, c.items.at(i));
-        cells[0].push_back(p.size), cells[1].push_back(p.start), cells[2].push_back(p.end), cells[3].push_back(p.offset);
+        cells[0].push_back(p.size), cells[1].push_back(p.start), cells[2].push_back(p.end),
+            cells[3].push_back(p.offset);
     }
     compare_cells(cells, e.number, c);
 }

@@ -1,5 +1,6 @@
-// Document 01's main axis and cross axis, read anew in C++: one line's items along it, one line's cross size, a container's lines across, one
-// line's items across it. Plain on purpose: f32 throughout, each operation rounded once, every sum from item 0 upward, no code of the library.
+// Document 01's main axis and cross axis, read anew in C++: one line's items along it, one line's cross size, a
+// container's lines across, one line's items across it. Plain on purpose: f32 throughout, each operation rounded once,
+// every sum from item 0 upward, no code of the library.
 #ifndef PLACE_MODEL_HPP
 #define PLACE_MODEL_HPP
 
@@ -19,8 +20,10 @@ struct Alignment {
 // Codes 0 to 4, 5 to 9 the same made safe, 10 to 13 stretch and space-*. An item's end with stretch.
 constexpr uint32_t most_content_code = 13, most_self_code = 10;
 inline Alignment alignment_of(uint32_t code) {
-    constexpr Keyword positions[] = {Keyword::start, Keyword::end, Keyword::flex_start, Keyword::flex_end, Keyword::center};
-    constexpr Keyword others[] = {Keyword::stretch, Keyword::space_between, Keyword::space_around, Keyword::space_evenly};
+    constexpr Keyword positions[] = {Keyword::start, Keyword::end, Keyword::flex_start, Keyword::flex_end,
+                                     Keyword::center};
+    constexpr Keyword others[] = {Keyword::stretch, Keyword::space_between, Keyword::space_around,
+                                  Keyword::space_evenly};
     return code < 10 ? Alignment{positions[code % 5], code >= 5} : Alignment{others[code - 10], false};
 }
 
@@ -60,7 +63,8 @@ inline std::vector<float> offsets(float free, std::size_t n, float gap, uint32_t
     const Keyword k = fallback(free, n, alignment_of(code));
     std::vector<float> all(n);
     for (std::size_t step = 0; step < n; step++)
-        all[reversed ? n - 1 - step : step] = cleaned(step == 0 ? first_offset(free, n, reversed, k) : later_offset(free, n, gap, k));
+        all[reversed ? n - 1 - step : step] =
+            cleaned(step == 0 ? first_offset(free, n, reversed, k) : later_offset(free, n, gap, k));
     return all;
 }
 
@@ -77,7 +81,9 @@ struct MainLists {
     std::vector<uint32_t> auto_start, auto_end;
 
     std::size_t n() const { return targets.size(); }
-    std::vector<std::size_t> lengths() const { return {targets.size(), start.size(), end.size(), auto_start.size(), auto_end.size()}; }
+    std::vector<std::size_t> lengths() const {
+        return {targets.size(), start.size(), end.size(), auto_start.size(), auto_end.size()};
+    }
 };
 
 struct PlacedMain {
@@ -170,21 +176,31 @@ struct CrossLists {
 
     void add(const CrossItem &it) {
         measured.push_back(it.measured), minimum.push_back(it.minimum), maximum.push_back(it.maximum);
-        has_maximum.push_back(it.has_maximum), edges.push_back(it.edges), start.push_back(it.start), end.push_back(it.end);
+        has_maximum.push_back(it.has_maximum), edges.push_back(it.edges), start.push_back(it.start),
+            end.push_back(it.end);
         auto_start.push_back(it.auto_start), auto_end.push_back(it.auto_end);
         align_self.push_back(it.align_self), auto_size.push_back(it.auto_size);
     }
     std::size_t n() const { return measured.size(); }
     std::vector<std::size_t> lengths(bool aligned) const {
-        std::vector<std::size_t> all{measured.size(), minimum.size(), maximum.size(),    has_maximum.size(), edges.size(),
-                                     start.size(),    end.size(),     auto_start.size(), auto_end.size()};
+        std::vector<std::size_t> all{measured.size(),    minimum.size(),    maximum.size(),
+                                     has_maximum.size(), edges.size(),      start.size(),
+                                     end.size(),         auto_start.size(), auto_end.size()};
         if (aligned) all.push_back(align_self.size()), all.push_back(auto_size.size());
         return all;
     }
     CrossItem at(std::size_t i) const {
-        return {measured[i], minimum[i],    maximum[i],  has_maximum[i], edges[i],
-                start[i],    end[i],        auto_start[i], auto_end[i],
-                i < align_self.size() ? align_self[i] : 0, i < auto_size.size() ? auto_size[i] : 0};
+        return {measured[i],
+                minimum[i],
+                maximum[i],
+                has_maximum[i],
+                edges[i],
+                start[i],
+                end[i],
+                auto_start[i],
+                auto_end[i],
+                i < align_self.size() ? align_self[i] : 0,
+                i < auto_size.size() ? auto_size[i] : 0};
     }
 };
 
@@ -228,7 +244,8 @@ inline PlacedLines place_lines(const CrossContainer &c, uint32_t align_content, 
     const float gap = cleaned(c.gap), gaps = gaps_of(gap, n);
     PlacedLines a;
     float gain = 0.0f;
-    // "Under stretch, if lines plus gaps fall short of the definite (else minimum) size, each gains the rest / line count".
+    // "Under stretch, if lines plus gaps fall short of the definite (else minimum) size, each gains the rest / line
+    // count".
     if (alignment_of(align_content).keyword == Keyword::stretch && (c.has_inner || c.has_minimum)) {
         const float size = c.has_inner ? c.given_inner() : cleaned(c.minimum), used = sum_of(lines) + gaps;
         if (used < size) gain = (size - used) / float(n);
@@ -241,7 +258,8 @@ inline PlacedLines place_lines(const CrossContainer &c, uint32_t align_content, 
     return a;
 }
 
-inline Refusal check_lines(const CrossContainer &c, uint32_t align_content, const std::vector<float> &lines, bool room) {
+inline Refusal check_lines(const CrossContainer &c, uint32_t align_content, const std::vector<float> &lines,
+                           bool room) {
     const Refusal shape = check_shape({lines.size()}, lines.size(), room);
     if (shape.number) return shape;
     Taking taking;
@@ -274,13 +292,18 @@ inline PlacedItem place_item(float line, bool reversed, const CrossItem &it) {
     const float margins = it.margins();
     const float size = it.clamped(it.stretched() ? line - margins : cleaned(it.measured));
     const float free = line - (size + margins);
-    if (!it.has_auto()) return {cleaned(size), cleaned(it.start), cleaned(it.end), cleaned(self_offset(free, reversed, alignment_of(it.align_self)))};
-    if (free < 0.0f) return {cleaned(size), cleaned(it.auto_start ? 0.0f : it.start), cleaned((it.auto_end ? 0.0f : it.end) + free), 0.0f};
+    if (!it.has_auto())
+        return {cleaned(size), cleaned(it.start), cleaned(it.end),
+                cleaned(self_offset(free, reversed, alignment_of(it.align_self)))};
+    if (free < 0.0f)
+        return {cleaned(size), cleaned(it.auto_start ? 0.0f : it.start), cleaned((it.auto_end ? 0.0f : it.end) + free),
+                0.0f};
     const float share = it.share(free);
     return {cleaned(size), cleaned(it.auto_start ? share : it.start), cleaned(it.auto_end ? share : it.end), 0.0f};
 }
 
-// The line's size is a worked-out number of the container; `code` is what says whether wrapping is reversed, and `most` its largest value.
+// The line's size is a worked-out number of the container; `code` is what says whether wrapping is reversed, and `most`
+// its largest value.
 inline Refusal check_across(float line, uint32_t code, uint32_t most, const CrossLists &l, bool room) {
     const Refusal shape = check_shape(l.lengths(true), l.n(), room);
     if (shape.number) return shape;

@@ -37,15 +37,17 @@ model::CrossLists across(const std::vector<CrossItem> &items) {
 // P14 and P15 of document 01.
 void examples() {
     const MainCall p14 = main_call(100, 5, FRATOLIVEM_SPACE_BETWEEN, {10, 10, 10});
-    expect(model::place_main(100, 5, p14.justify, false, p14.items).offsets == Floats{0, 35, 35}, "the model differs from P14", p14);
+    expect(model::place_main(100, 5, p14.justify, false, p14.items).offsets == Floats{0, 35, 35},
+           "the model differs from P14", p14);
     try_main(p14);
     const LinesCall p15{container(FRATOLIVEM_WRAP, 100, 10), FRATOLIVEM_STRETCH, {20, 30}};
-    expect(model::place_lines(p15.container, p15.align_content, p15.lines).sizes == Floats{40, 50}, "the model differs from P15", p15);
+    expect(model::place_lines(p15.container, p15.align_content, p15.lines).sizes == Floats{40, 50},
+           "the model differs from P15", p15);
     try_lines(p15);
 }
 
-// Document 02, Three: an item of 40 with auto margins on a line too short for it, on one that is long enough, and on one just as long. Its margins
-// as given (the 3 beside an auto one does not count), and as used.
+// Document 02, Three: an item of 40 with auto margins on a line too short for it, on one that is long enough, and on
+// one just as long. Its margins as given (the 3 beside an auto one does not count), and as used.
 const struct {
     float line;
     uint32_t auto_start;
@@ -53,9 +55,9 @@ const struct {
     uint32_t auto_end;
     float end, used_start, used_end;
 } auto_margins[] = {
-    {24, 1, 3, 1, 3, 0, -16}, {24, 1, 3, 0, 0, 0, -16}, {24, 1, 3, 0, 6, 0, -16}, {24, 0, 5, 1, 3, 5, -21},
-    {24, 1, 3, 0, -6, 0, -16}, {60, 1, 3, 1, 3, 10, 10}, {60, 1, 3, 0, 6, 14, 6},    {60, 0, 5, 1, 3, 5, 15},
-    {40, 1, 3, 1, 3, 0, 0},
+    {24, 1, 3, 1, 3, 0, -16}, {24, 1, 3, 0, 0, 0, -16},  {24, 1, 3, 0, 6, 0, -16},
+    {24, 0, 5, 1, 3, 5, -21}, {24, 1, 3, 0, -6, 0, -16}, {60, 1, 3, 1, 3, 10, 10},
+    {60, 1, 3, 0, 6, 14, 6},  {60, 0, 5, 1, 3, 5, 15},   {40, 1, 3, 1, 3, 0, 0},
 };
 
 void margins_across() {
@@ -63,11 +65,13 @@ void margins_across() {
         for (uint32_t reversed : {0u, 1u})
             for (uint32_t align = 0; align <= 10; align++) {
                 CrossItem it;
-                it.measured = 40, it.start = m.start, it.end = m.end, it.auto_start = m.auto_start, it.auto_end = m.auto_end;
+                it.measured = 40, it.start = m.start, it.end = m.end, it.auto_start = m.auto_start,
+                it.auto_end = m.auto_end;
                 it.align_self = align, it.auto_size = 1;
                 const AcrossCall c{m.line, reversed, across({it})};
                 const model::PlacedItem p = model::place_item(m.line, reversed, it);
-                expect(p.size == 40 && p.start == m.used_start && p.end == m.used_end && p.offset == 0, "the model differs from Three", c);
+                expect(p.size == 40 && p.start == m.used_start && p.end == m.used_end && p.offset == 0,
+                       "the model differs from Three", c);
                 try_across(c);
             }
 }
@@ -135,12 +139,13 @@ void keywords_across() {
 // ---- numbers that a check might get wrong
 
 const uint32_t patterns[] = {
-    0x7fc00000, 0x7f800001, 0xffc12345, 0xff800001, 0x7f800000, 0xff800000,             // NaNs, infinities
-    0x00000001, 0x80000001, 0x007fffff, 0x3c800001, 0x3f800001, 0xbc000000,             // off the grid
-    0x7f7fffff, 0xff7fffff, 0x48800001, 0xc8800001, 0x48800000, 0xc8800000,             // large, and the border of lengths
-    0x48000000, 0xc8000000, 0x48000001, 0xc8000001,                                     // that of margins
-    0x4b800000, 0xcb800000, 0x4b800001, 0xcb800001,                                     // that of worked-out numbers
-    0x80000000, 0x00000000, 0x3c800000, 0xbc800000, 0x42c80000, 0xc2c80000, 0x42c80001, // fine, the last as a worked-out one
+    0x7fc00000, 0x7f800001, 0xffc12345, 0xff800001, 0x7f800000, 0xff800000, // NaNs, infinities
+    0x00000001, 0x80000001, 0x007fffff, 0x3c800001, 0x3f800001, 0xbc000000, // off the grid
+    0x7f7fffff, 0xff7fffff, 0x48800001, 0xc8800001, 0x48800000, 0xc8800000, // large, and the border of lengths
+    0x48000000, 0xc8000000, 0x48000001, 0xc8000001,                         // that of margins
+    0x4b800000, 0xcb800000, 0x4b800001, 0xcb800001,                         // that of worked-out numbers
+    0x80000000, 0x00000000, 0x3c800000, 0xbc800000, 0x42c80000, 0xc2c80000,
+    0x42c80001, // fine, the last as a worked-out one
 };
 
 // Each pattern at each place, and beside another one at another, for the order of the checks.
@@ -188,8 +193,10 @@ MainCall five_along() {
 model::CrossLists five_across() {
     std::vector<CrossItem> items(5);
     for (std::size_t i = 0; i < 5; i++) {
-        items[i].measured = float(10 * i), items[i].minimum = 5, items[i].maximum = 30, items[i].has_maximum = i % 2, items[i].edges = 4;
-        items[i].start = 6, items[i].end = -2, items[i].auto_start = i == 3, items[i].align_self = uint32_t(2 * i), items[i].auto_size = i % 2;
+        items[i].measured = float(10 * i), items[i].minimum = 5, items[i].maximum = 30, items[i].has_maximum = i % 2,
+        items[i].edges = 4;
+        items[i].start = 6, items[i].end = -2, items[i].auto_start = i == 3, items[i].align_self = uint32_t(2 * i),
+        items[i].auto_size = i % 2;
     }
     return across(items);
 }
@@ -201,18 +208,26 @@ CrossContainer bounded() {
 }
 
 void numbers() {
-    patterns_at(five_along(), [](MainCall &c) { return joined({&c.inner, &c.gap}, c.items); }, [](const MainCall &c) { try_main(c); });
-    patterns_at(SizeCall{bounded(), five_across()}, [](SizeCall &c) { return joined(numbers_of(c.container), c.items); },
-                [](const SizeCall &c) { try_size(c); });
-    patterns_at(LinesCall{bounded(), FRATOLIVEM_STRETCH, {10, 20, 30, 40.7f, 50}},
-                [](LinesCall &c) {
-                    auto at = numbers_of(c.container);
-                    at.push_back(&c.lines[0]), at.push_back(&c.lines[3]);
-                    return at;
-                },
-                [](const LinesCall &c) { try_lines(c); });
-    patterns_at(AcrossCall{60, 0, five_across()}, [](AcrossCall &c) { return joined({&c.line}, c.items); },
-                [](const AcrossCall &c) { try_across(c); });
+    patterns_at(
+        five_along(),
+        [](MainCall &c) {
+            return joined({&c.inner, &c.gap}, c.items);
+        },
+        [](const MainCall &c) { try_main(c); });
+    patterns_at(
+        SizeCall{bounded(), five_across()}, [](SizeCall &c) { return joined(numbers_of(c.container), c.items); },
+        [](const SizeCall &c) { try_size(c); });
+    patterns_at(
+        LinesCall{bounded(), FRATOLIVEM_STRETCH, {10, 20, 30, 40.7f, 50}},
+        [](LinesCall &c) {
+            auto at = numbers_of(c.container);
+            at.push_back(&c.lines[0]), at.push_back(&c.lines[3]);
+            return at;
+        },
+        [](const LinesCall &c) { try_lines(c); });
+    patterns_at(
+        AcrossCall{60, 0, five_across()}, [](AcrossCall &c) { return joined({&c.line}, c.items); },
+        [](const AcrossCall &c) { try_across(c); });
 }
 
 // Codes that name nothing, beside numbers that are right and wrong.
@@ -248,8 +263,10 @@ void uneven(const List &even, std::size_t n, Try attempt) {
     for (std::size_t list = 0; list < floats_of(even).size() + codes_of(even).size(); list++)
         for (int by : {-1, 1, 2}) {
             List l = even;
-            if (list < floats_of(l).size()) floats_of(l)[list]->resize(with(n, by), 1.0f);
-            else codes_of(l)[list - floats_of(l).size()]->resize(with(n, by), 0);
+            if (list < floats_of(l).size())
+                floats_of(l)[list]->resize(with(n, by), 1.0f);
+            else
+                codes_of(l)[list - floats_of(l).size()]->resize(with(n, by), 0);
             attempt(l);
         }
 }
@@ -259,7 +276,13 @@ void lengths() {
         const model::MainLists along = main_call(0, 0, 0, Floats(n, 1.5f)).items;
         const model::CrossLists items = across(std::vector<CrossItem>(n, five_across().at(2)));
         for (uint32_t keyword : {0u, 4u, 11u, 12u, 13u, 14u})
-            for (const Extra &x : {Extra{}, {-1, 0, 0, 0}, {0, -1, 0, 0}, {0, 0, -1, 0}, {0, 0, 0, -1}, {3, 5, 7, 9}, {-1, -1, -1, -1},
+            for (const Extra &x : {Extra{},
+                                   {-1, 0, 0, 0},
+                                   {0, -1, 0, 0},
+                                   {0, 0, -1, 0},
+                                   {0, 0, 0, -1},
+                                   {3, 5, 7, 9},
+                                   {-1, -1, -1, -1},
                                    {2, 2, -1, 2}}) {
                 try_main({2000, 0.5f, keyword, keyword & 1, along}, x);
                 try_lines({container(keyword % 5, 3000, 0.25f), keyword, Floats(n, 0.7f)}, x);
@@ -301,7 +324,8 @@ void nulls() {
     expect(a.number == 3 && a.where == FRATOLIVEM_CONTAINER, "place_main of NULLs in a size that is none", none);
     const float one[] = {1};
     const uint32_t zero[] = {0};
-    a = fratolivem_place_main(10, 1, 0, 0, one, 1, one, 1, one, 1, zero, 1, zero, 1, nullptr, 0, nullptr, 0, nullptr, 0);
+    a = fratolivem_place_main(10, 1, 0, 0, one, 1, one, 1, one, 1, zero, 1, zero, 1, nullptr, 0, nullptr, 0, nullptr,
+                              0);
     expect(a.number == 2 && a.where == FRATOLIVEM_CONTAINER, "place_main with NULL for its answers", none);
     const fratolivem_cross c = crossed(bounded());
     auto s = fratolivem_line_size(c, NULLS_9);
@@ -315,7 +339,8 @@ void nulls() {
     a = fratolivem_place_across(10, 0, NULLS_9, nullptr, 0, nullptr, 0, nullptr, 0, nullptr, 0, nullptr, 0, nullptr, 0);
     expect(a.number == 0 && a.lines == 0, "place_across of NULLs", none);
     a = fratolivem_place_across(10, 2, NULLS_9, nullptr, 0, nullptr, 0, nullptr, 0, nullptr, 0, nullptr, 0, nullptr, 0);
-    expect(a.number == 5 && a.where == FRATOLIVEM_CONTAINER, "place_across of NULLs and a code that names nothing", none);
+    expect(a.number == 5 && a.where == FRATOLIVEM_CONTAINER, "place_across of NULLs and a code that names nothing",
+           none);
     calls += 9;
 
     // So many that no list is looked at: pages that nobody may read.
@@ -344,7 +369,9 @@ struct Random {
         return x > 16777216 ? 16777216.0f : below(8) ? x : -x;
     }
     uint32_t flag(uint64_t odds) { return below(odds) == 0; }
-    float margin(uint32_t is_auto, uint64_t most) { return is_auto ? any() : below(3) ? 0.0f : (below(2) ? 1.0f : -1.0f) * length(most); }
+    float margin(uint32_t is_auto, uint64_t most) {
+        return is_auto ? any() : below(3) ? 0.0f : (below(2) ? 1.0f : -1.0f) * length(most);
+    }
     // The size, or about as much as is used: free space of 0, or near it.
     float near(double used, float size) {
         const double x = std::floor(used * 64 + double(below(5)) - 2) / 64;
@@ -364,7 +391,8 @@ struct Random {
         CrossItem it;
         it.measured = or_any(length(most)), it.minimum = below(3) ? 0.0f : length(most), it.has_maximum = flag(3);
         it.maximum = it.has_maximum ? length(most) : any(), it.edges = below(3) ? 0.0f : length(most / 4 + 1);
-        it.auto_start = flag(5), it.auto_end = flag(5), it.start = margin(it.auto_start, most), it.end = margin(it.auto_end, most);
+        it.auto_start = flag(5), it.auto_end = flag(5), it.start = margin(it.auto_start, most),
+        it.end = margin(it.auto_end, most);
         it.align_self = uint32_t(below(11)), it.auto_size = flag(2);
         return it;
     }
@@ -376,7 +404,8 @@ void random_lists(uint64_t seed, long lists) {
         const std::size_t n = r.below(turn % 200 == 0 ? 1025 : turn % 8 == 0 ? 65 : 10);
         const uint64_t most = std::array{3ull, 100ull, 100000ull}[r.below(3)];
         const Extra x{int(r.below(3)), int(r.below(3)), int(r.below(3)), int(r.below(3))};
-        MainCall m = main_call(r.length(most * n + 1 > 262144 ? 262144 : most * n + 1), r.length(8), uint32_t(r.below(14)), Floats(n));
+        MainCall m = main_call(r.length(most * n + 1 > 262144 ? 262144 : most * n + 1), r.length(8),
+                               uint32_t(r.below(14)), Floats(n));
         m.reversed = r.flag(2);
         LinesCall l{r.cross(most), uint32_t(r.below(14)), Floats(n)};
         AcrossCall a{r.below(8) ? r.worked(most) : r.or_any(r.length(most)), r.flag(2), {}};
@@ -385,12 +414,14 @@ void random_lists(uint64_t seed, long lists) {
         for (std::size_t i = 0; i < n; i++) {
             m.items.targets[i] = r.or_any(r.below(2) ? r.length(most) : r.worked(most));
             m.items.auto_start[i] = r.flag(autos), m.items.auto_end[i] = r.flag(autos);
-            m.items.start[i] = r.margin(m.items.auto_start[i], most), m.items.end[i] = r.margin(m.items.auto_end[i], most);
+            m.items.start[i] = r.margin(m.items.auto_start[i], most),
+            m.items.end[i] = r.margin(m.items.auto_end[i], most);
             l.lines[i] = r.or_any(r.below(2) ? r.length(most) : r.worked(most));
             a.items.add(r.item(most));
             lines += double(l.lines[i]);
             along += double(m.items.targets[i]);
-            along += (m.items.auto_start[i] ? 0 : double(m.items.start[i])) + (m.items.auto_end[i] ? 0 : double(m.items.end[i]));
+            along += (m.items.auto_start[i] ? 0 : double(m.items.start[i])) +
+                     (m.items.auto_end[i] ? 0 : double(m.items.end[i]));
         }
         m.inner = r.near(along, m.inner), l.container.inner = r.near(lines, l.container.inner);
         try_main(m, x), try_lines(l, x), try_across(a, x), try_size({r.cross(most), a.items});
@@ -399,23 +430,27 @@ void random_lists(uint64_t seed, long lists) {
 
 void cpp_header() {
     const MainCall m = main_call(100, 5, FRATOLIVEM_SPACE_BETWEEN, {10, 10, 10});
-    const fratolivem::main_columns along{m.items.targets, m.items.start, m.items.end, m.items.auto_start, m.items.auto_end};
+    const fratolivem::main_columns along{m.items.targets, m.items.start, m.items.end, m.items.auto_start,
+                                         m.items.auto_end};
     Floats offsets(3), start(3, 9.0f), end(3, 9.0f), sizes(3);
     const auto a = fratolivem::place_main(m.inner, m.gap, m.justify, false, along, offsets, start, end);
     expect(a && offsets == Floats{0, 35, 35} && start == Floats(3) && end == Floats(3), "the C++ place_main", m);
 
     const LinesCall p15{container(FRATOLIVEM_WRAP, 100, 10), FRATOLIVEM_STRETCH, {20, 30, NAN}};
     const fratolivem::cross wall(FRATOLIVEM_WRAP, 100.0f, 10);
-    const auto l = fratolivem::place_lines(wall, FRATOLIVEM_STRETCH, fratolivem::span<const float>(p15.lines.data(), 2), sizes, offsets);
-    expect(l && l.size == 100 && sizes == Floats{40, 50, 0} && offsets == Floats{0, 10, 35}, "the C++ place_lines", p15);
+    const auto l = fratolivem::place_lines(wall, FRATOLIVEM_STRETCH, fratolivem::span<const float>(p15.lines.data(), 2),
+                                           sizes, offsets);
+    expect(l && l.size == 100 && sizes == Floats{40, 50, 0} && offsets == Floats{0, 10, 35}, "the C++ place_lines",
+           p15);
     const auto holed = fratolivem::place_lines(wall, FRATOLIVEM_STRETCH, p15.lines, sizes, offsets);
-    expect(!holed && holed.size == 0 && holed.text() == "a number is NaN or infinite, at line 2", "words of a line", p15);
+    expect(!holed && holed.size == 0 && holed.text() == "a number is NaN or infinite, at line 2", "words of a line",
+           p15);
 
     const model::CrossLists five = five_across();
-    const fratolivem::across_columns columns{
-        {five.measured, five.minimum, five.maximum, five.has_maximum, five.edges, five.start, five.end, five.auto_start, five.auto_end},
-        five.align_self,
-        five.auto_size};
+    const fratolivem::across_columns columns{{five.measured, five.minimum, five.maximum, five.has_maximum, five.edges,
+                                              five.start, five.end, five.auto_start, five.auto_end},
+                                             five.align_self,
+                                             five.auto_size};
     const SizeCall size{container(FRATOLIVEM_WRAP, 100, 0), five};
     const auto s = fratolivem::line_size(wall, columns);
     expect(s && s.size == model::cross_size(size.container, five, 0, 5), "the C++ line_size", size);
@@ -424,15 +459,19 @@ void cpp_header() {
     bool same = bool(p);
     for (std::size_t i = 0; i < 5; i++) {
         const auto e = model::place_item(60, true, five.at(i));
-        same = same && across_sizes[i] == e.size && across_start[i] == e.start && across_end[i] == e.end && across_offsets[i] == e.offset;
+        same = same && across_sizes[i] == e.size && across_start[i] == e.start && across_end[i] == e.end &&
+               across_offsets[i] == e.offset;
     }
     expect(same, "the C++ place_across", size);
     auto short_of_one = columns;
     short_of_one.auto_size = {};
-    const auto q = fratolivem::place_across(60, true, short_of_one, across_sizes, across_start, across_end, across_offsets);
-    expect(!q && q.why() == fratolivem::refusal::too_little_room && across_sizes[0] == 5, "a refusal of the C++ place_across", size);
+    const auto q =
+        fratolivem::place_across(60, true, short_of_one, across_sizes, across_start, across_end, across_offsets);
+    expect(!q && q.why() == fratolivem::refusal::too_little_room && across_sizes[0] == 5,
+           "a refusal of the C++ place_across", size);
     const auto t = fratolivem::line_size(fratolivem::cross(7, {}, 0), columns);
-    expect(!t && t.text() == "a number is out of range, or a code names nothing, at the container", "words of a code that names nothing", size);
+    expect(!t && t.text() == "a number is out of range, or a code names nothing, at the container",
+           "words of a code that names nothing", size);
     calls += 7;
 }
 
