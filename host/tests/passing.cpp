@@ -1,6 +1,8 @@
 // Boundary tests of the whole pass: made on lent lists with dirty cells, and compared with the model: answer, place and
 // every cell.
 // passing [SEED] [LISTS]
+#include <pthread.h>
+
 #include <chrono>
 #include <cinttypes>
 #include <cmath>
@@ -33,9 +35,9 @@ void expect(bool ok, const char *what, const Container &c, std::size_t n) {
 constexpr std::size_t most = 1100;
 // The items as cells of 4 bytes, which all of theirs are.
 constexpr std::size_t cells = sizeof(Item) / 4;
-Lent<uint32_t> items(cells *most);
+Lent<uint32_t> items{cells * most};
 Lent<float> placed(8 * most), lines(2 * most);
-Lent<uint32_t> counts(most), rounds(most), work(most *most + 3 * most);
+Lent<uint32_t> counts(most), rounds(most), work{most * most + 3 * most};
 Lent<int32_t> free_space(most);
 Lent<double> sums(3 * most);
 
@@ -236,6 +238,28 @@ void panels() {
     calls += 4;
 }
 
+// A thread with the stack that the header promises, and no more: the most items, by the mode that works in the most
+// cells. A call that took more would run into the page past the stack.
+void *on_a_small_stack(void *) {
+    Container c;
+    c.inner_main = 1024, c.limit = 1024, c.minimum_lines = 1, c.wrap = FRATOLIVEM_BALANCE;
+    std::vector<Item> list(FRATOLIVEM_MOST_ITEMS);
+    for (std::size_t i = 0; i < list.size(); i++) list[i].main_base = float(1 + i % 60), list[i].grow = 1;
+    const PassRoom r = PassRoom::named(list.size());
+    try_pass(c, list, r);
+    return nullptr;
+}
+
+void small_stack() {
+    pthread_attr_t promised;
+    pthread_t thread;
+    pthread_attr_init(&promised);
+    const bool made = pthread_attr_setstacksize(&promised, 256 * 1024) == 0 &&
+                      pthread_create(&thread, &promised, on_a_small_stack, nullptr) == 0;
+    expect(made && pthread_join(thread, nullptr) == 0, "a thread of 256 KB", Container(), FRATOLIVEM_MOST_ITEMS);
+    pthread_attr_destroy(&promised);
+}
+
 } // namespace
 
 int main(int argc, char **argv) {
@@ -250,6 +274,7 @@ int main(int argc, char **argv) {
     lengths();
     random_passes(seed, lists);
     panels();
+    small_stack();
     std::printf("passing: %ld calls compared, %ld differences\n", calls, bad);
     return bad ? 1 : 0;
 }
