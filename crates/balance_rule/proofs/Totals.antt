@@ -13,7 +13,7 @@ use Rattle.lists.specs.Cells.{sumUpTo}
 use Rattle.grid.proofs.Sums.{abs-add}
 use Rattle.lists.proofs.UpTo.{sum-first}
 use Rattle.break_greedy.specs.Breaking.{lineSize}
-use Rattle.break_greedy.specs.Calls.{outerSum, units}
+use Rattle.break_greedy.specs.Calls.{sizesSum, units}
 use Rattle.balance_rule.specs.Rule.{floored, score}
 
 -- ---- the sum of check 6, over a list
@@ -22,7 +22,7 @@ weigh : ℤ → List ℤ → ℕ
 weigh gap [] = 0
 weigh gap (x ∷ l) = natAbs x + natAbs gap + weigh gap l
 
-weigh-is : (gap : Float) (sizes : List Float) → outerSum gap sizes ≡ weigh (sixtyFourths gap) (units sizes)
+weigh-is : (gap : Float) (sizes : List Float) → sizesSum gap sizes ≡ weigh (sixtyFourths gap) (units sizes)
 unfolding weigh sumUpTo
 weigh-is gap [] = refl
 weigh-is gap (x ∷ sizes) =
@@ -66,7 +66,7 @@ score-less gap xs (c ∷ d) =
     omega (arith, p, q, score-less gap (drop c xs) d)
 
 -- THE TOTALS: of any division of an accepted list's sizes
-pub totals-exact : (gap : Float) (sizes : List Float) (d : List ℕ) → outerSum gap sizes ≤ 16777216 → score (sixtyFourths gap) (map floored (units sizes)) d ≤ 2 ^ 48
+pub totals-exact : (gap : Float) (sizes : List Float) (d : List ℕ) → sizesSum gap sizes ≤ 16777216 → score (sixtyFourths gap) (map floored (units sizes)) d ≤ 2 ^ 48
 totals-exact gap sizes d h =
     let w = weigh (sixtyFourths gap) (map floored (units sizes)) in
     let s : w ≤ 16777216 = omega (arith, weigh-floored (sixtyFourths gap) (units sizes), weigh-is gap sizes) in

@@ -23,7 +23,7 @@ use Rattle.checks.proofs.Checks.{judged-checked, least-append, least-one, then-
 use Rattle.keywords.specs.declared.AvailableSpace.{AvailableSpace}
 use Rattle.keywords.specs.declared.AvailableSpace.the-variants.{Definite, MinContent, MaxContent}
 use Rattle.break_limit.specs.Limit.{spaceNumbers}
-use Rattle.break_greedy.specs.Calls.{breakingInput, outerSum, breakingVerdict}
+use Rattle.break_greedy.specs.Calls.{breakingInput, sizesSum, breakingVerdict}
 use Rattle.break_greedy.specs.Steps.{LengthLimit, Breakable}
 
 -- ---- the marks are the checks
@@ -76,18 +76,18 @@ module _ (codes : List Number) (limit : AvailableSpace) (gap : Float) (sizes : L
   breakable room e =
       let p = then-passed (shape (length sizes) room) _ e in
       let q = shape-passed (length sizes) room (p .0) in
-      let a = accepted (breakingInput codes limit gap sizes) (summed (outerSum gap sizes)) (p .1) in
+      let a = accepted (breakingInput codes limit gap sizes) (summed (sizesSum gap sizes)) (p .1) in
       let l = lawful (a .0) in
-      (record { few = q .0; each = l .each; spacing = l .spacing; gap-not-below-0 = l .gap-not-below-0; limit-is = l .limit-is; small = summed-passed (outerSum gap sizes) (a .1) }, q .1)
+      (record { few = q .0; each = l .each; spacing = l .spacing; gap-not-below-0 = l .gap-not-below-0; limit-is = l .limit-is; small = summed-passed (sizesSum gap sizes) (a .1) }, q .1)
 
   -- the verdict, once the shape has passed, from the mark
   pub verdict-is : (room : Bool) (m : ℕ) → shape (length sizes) room ≡ Passed → m ≡ breakingMark (leastOf codes 0) limit gap sizes
-      → then (judged m) (summed (outerSum gap sizes)) ≡ breakingVerdict codes limit gap sizes room
+      → then (judged m) (summed (sizesSum gap sizes)) ≡ breakingVerdict codes limit gap sizes room
   unfolding breakingVerdict
   verdict-is room m p e =
-      ap (λ (n : ℕ). then (judged n) (summed (outerSum gap sizes))) e
-      ∙ breaking-checked (shape-passed (length sizes) room p .0) (summed (outerSum gap sizes))
-      ∙ sym (ap (λ (v : Verdict). then v (checked (breakingInput codes limit gap sizes) (summed (outerSum gap sizes)))) p)
+      ap (λ (n : ℕ). then (judged n) (summed (sizesSum gap sizes))) e
+      ∙ breaking-checked (shape-passed (length sizes) room p .0) (summed (sizesSum gap sizes))
+      ∙ sym (ap (λ (v : Verdict). then v (checked (breakingInput codes limit gap sizes) (summed (sizesSum gap sizes)))) p)
 
   -- ---- a code before the limit
 
@@ -101,7 +101,7 @@ module _ (codes : List Number) (limit : AvailableSpace) (gap : Float) (sizes : L
   unfolding breakingVerdict
   code-fails most c room f e =
       let p = then-passed (shape (length sizes) room) _ e in
-      let a = accepted (breakingInput (code most c ∷ codes) limit gap sizes) (summed (outerSum gap sizes)) (p .1) in
+      let a = accepted (breakingInput (code most c ∷ codes) limit gap sizes) (summed (sizesSum gap sizes)) (p .1) in
       let h = fine-code (a .0 .container .0) in
       absurd (omega (arith, leb-false c most f))
 

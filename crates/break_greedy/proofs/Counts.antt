@@ -3,13 +3,14 @@
 use mathlib.Core.Path.{_≡_, refl, sym, ap, ap₂, _∙_}
 use mathlib.Core.List.{List, [], _∷_, _++_, append-nil, append-assoc}
 use Prim.Native.Nat.{ℕ, suc, _+_, _-_, _≤_, _<_, zero-le}
-use native.Mathlib.Nat.{le-refl, add-sub-of-le}
+use native.Mathlib.Nat.{le-refl, le-suc, add-sub-of-le}
 use native.Mathlib.Numerals.{add-one}
 use native.Mathlib.Omega.{arith}
 use lib.ListN.{length, getD, take, drop, set, replicate, length-set, length-append, length-drop, drop-of-length-le, take-append-drop}
 use lib.Seq.{drop-cons, drop-drop, drop-set-lt, take-suc-set, length-take-le, take-at, drop-append-add}
 use lib.IntN.{ℤ, pos}
 use Rattle.lists.specs.Cells.{filled}
+use Rattle.lists.proofs.ByLine.{later}
 use Rattle.break_greedy.specs.Breaking.{Limit, taken, greedy}
 use Rattle.break_greedy.specs.Calls.{countCells}
 use Rattle.break_greedy.specs.Steps.{Counted, Listed}
@@ -51,9 +52,6 @@ pub record Inv (limit : Limit) (gap : ℤ) (l : List ℤ) (passed counts : List 
   pub front : take n counts ++ greedy limit gap (drop start l) ≡ greedy limit gap l
   pub back : drop n counts ≡ drop n passed
 
-drop-one : (n : ℕ) (k l : List ℕ) → drop n k ≡ drop n l → drop (suc n) k ≡ drop (suc n) l
-drop-one n k l e = ap (λ (i : ℕ). drop i k) (sym (add-one n)) ∙ sym (drop-drop 1 n k) ∙ ap (drop 1) e ∙ drop-drop 1 n l ∙ ap (λ (i : ℕ). drop i l) (add-one n)
-
 module _ (limit : Limit) (gap : ℤ) (l : List ℤ) (passed : List ℕ) (room : length l ≤ length passed) where
   pub begin : Inv limit gap l passed passed 0 0
   begin = record { inside = zero-le; fewer = le-refl 0; long = refl; front = refl; back = refl }
@@ -78,7 +76,7 @@ module _ (limit : Limit) (gap : ℤ) (l : List ℤ) (passed : List ℕ) (room : 
         back =
             ap (λ (m : ℕ). drop m (set counts n v)) (add-one n)
             ∙ drop-set-lt (suc n) counts n v (le-refl (suc n))
-            ∙ drop-one n counts passed (inv .back)
+            ∙ later n (suc n) counts passed (le-suc n) (inv .back)
             ∙ ap (λ (m : ℕ). drop m passed) (sym (add-one n));
       }
 

@@ -31,13 +31,13 @@ breakingInput codes limit gap sizes = record {
 }
 
 -- "The sum over items of (|outer main size| + gap)"
-abbrev pub outerSum : Float → List Float → ℕ
-outerSum gap sizes = sumUpTo (λ i. natAbs (sixtyFourths (getD sizes i nan)) + natAbs (sixtyFourths gap)) (length sizes)
+abbrev pub sizesSum : Float → List Float → ℕ
+sizesSum gap sizes = sumUpTo (λ i. natAbs (sixtyFourths (getD sizes i nan)) + natAbs (sixtyFourths gap)) (length sizes)
 
 -- checks 1 to 6 of a breaking call; `room` says that the lent lists are long enough
 unfoldable pub breakingVerdict : List Number → AvailableSpace → Float → List Float → Bool → Verdict
 breakingVerdict codes limit gap sizes room =
-    then (shape (length sizes) room) (checked (breakingInput codes limit gap sizes) (summed (outerSum gap sizes)))
+    then (shape (length sizes) room) (checked (breakingInput codes limit gap sizes) (summed (sizesSum gap sizes)))
 
 -- sizes in whole sixty-fourths
 abbrev pub units : List Float → List ℤ

@@ -11,7 +11,7 @@ use Rattle.checks.specs.Marks.{Lengths}
 use Rattle.keywords.specs.declared.AvailableSpace.{AvailableSpace}
 use Rattle.keywords.specs.declared.AvailableSpace.the-variants.{Definite, MinContent, MaxContent}
 use Rattle.break_greedy.specs.Breaking.{limitOf, taken}
-use Rattle.break_greedy.specs.Calls.{outerSum, units, countCells}
+use Rattle.break_greedy.specs.Calls.{sizesSum, units, countCells}
 
 -- a definite limit is a length
 abbrev pub LengthLimit : AvailableSpace → Type 0
@@ -26,7 +26,7 @@ pub record Breakable (limit : AvailableSpace) (gap : Float) (sizes : List Float)
   pub spacing : Length gap
   pub gap-not-below-0 : (z : ℕ) × (sixtyFourths gap ≡ pos z)
   pub limit-is : LengthLimit limit
-  pub small : outerSum gap sizes ≤ 16777216
+  pub small : sizesSum gap sizes ≤ 16777216
 
 -- where the line that starts at an item ends: it takes that item, and then as many as fit
 abbrev pub LineEnd : AvailableSpace → Float → List Float → ℕ → ℕ → Type 0

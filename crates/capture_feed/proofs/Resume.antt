@@ -13,9 +13,9 @@ use lib.Dec.{ltb}
 use native.Mathlib.Decide.{decLe}
 use borrow.Author.Tests.{lt-ltb, le-ltb}
 use lib.Ieee.{Float}
-use Rattle.capture_format.specs.Format.{firstFront, laterFront, float}
+use Rattle.capture_format.specs.Format.{firstFront, laterFront, floatAt}
 use Rattle.capture_format.specs.Parts.{front}
-use Rattle.capture_format.specs.Reading.{Rest, sizes, faulty, more, ending, items}
+use Rattle.capture_format.specs.Reading.{Rest, sizes, faulty, more, ending, itemRecords}
 use Rattle.capture_format.specs.declared.Head.{Head}
 use Rattle.capture_format.specs.declared.Stage.{Stage}
 use Rattle.capture_format.specs.declared.Stage.the-variants as stage
@@ -24,7 +24,7 @@ use Rattle.capture_format.specs.declared.Parsed.the-variants.{Item, End, Partia
 use Rattle.capture_format.specs.declared.Parsed.the-variants as parsed
 use Rattle.capture_format.proofs.Front as f
 use Rattle.capture_format.proofs.Items.{items-by}
-use Rattle.capture_feed.specs.Machine.{Fed, withSizes, advanced, kept, stepped, fed, SoundReader, ReaderReady}
+use Rattle.capture_feed.specs.Machine.{Fed, withSizes, advanced, kept, byteFed, fed, SoundReader, ReaderReady}
 use Rattle.capture_feed.specs.declared.Reader.{Reader}
 use Rattle.capture_feed.proofs.Sound.{next-bytes, step-ready, step-room}
 
@@ -46,8 +46,8 @@ firstly End place n kept rest = broken place
 
 -- what a reader will know that stands at `place`, with these bytes from there on, and n items before them
 unfoldable pub coming : Stage → ℕ → List ℕ → Head → ℕ → List Float → Known
-coming stage.First place l h n kept = firstly (firstFront l) place n kept (items (place + 12) (drop 12 l))
-coming stage.Items place l h n kept = joined h n kept (items place l)
+coming stage.First place l h n kept = firstly (firstFront l) place n kept (itemRecords (place + 12) (drop 12 l))
+coming stage.Items place l h n kept = joined h n kept (itemRecords place l)
 coming stage.Ended place l h n kept = joined h n kept (ending place l)
 coming stage.Broken place l h n kept = broken place
 
@@ -106,7 +106,7 @@ module _ (place : ℕ) (q rest : List ℕ) (h : Head) (n : ℕ) (room : List Flo
       go (f.Later.cut k m) = rw (f.later-cut q k m)
       go (f.Later.item k m) =
           rw (items-by place (q ++ rest), f.later-item q k m, f.later-still-item q rest k m, drop-at q rest 5 (omega arith))
-          (join-more h n (float q 1) room (items (place + 5) rest) full)
+          (join-more h n (floatAt q 1) room (itemRecords (place + 5) rest) full)
       go (f.Later.end k) =
           rw (items-by place (q ++ rest), f.later-end q k, f.later-still-end q rest k, drop-at q rest 1 (ends (f.later-end q k)))
 
@@ -183,7 +183,7 @@ begun-of r s = go (s .midway)
     go (inl e) = inl (rw e)
     go (inr e) = inr e
 
-pub step-resumes : (fd : Fed) (b : ℕ) (rest : List ℕ) → SoundReader (fd .reader) → length (fd .sizes) ≡ 64 → resume (stepped fd b) rest ≡ resume fd (b ∷ rest)
+pub step-resumes : (fd : Fed) (b : ℕ) (rest : List ℕ) → SoundReader (fd .reader) → length (fd .sizes) ≡ 64 → resume (byteFed fd b) rest ≡ resume fd (b ∷ rest)
 unfolding resume
 step-resumes fd b rest sound full =
     let r = fd .reader in
@@ -199,5 +199,5 @@ pub fed-resumes : (l rest : List ℕ) (fd : Fed) → ReaderReady (fd .reader) (l
 unfolding fed
 fed-resumes [] rest fd ready full = refl
 fed-resumes (b ∷ l) rest fd ready full =
-    fed-resumes l rest (stepped fd b) (step-ready fd b (length l) (rw add-one ready)) (step-room fd b ∙ full)
+    fed-resumes l rest (byteFed fd b) (step-ready fd b (length l) (rw add-one ready)) (step-room fd b ∙ full)
     ∙ step-resumes fd b (l ++ rest) (ready .sound) full

@@ -12,7 +12,7 @@ use lib.Dec.{ltb}
 use mathlib.Core.Bool.{Bool, true, false, cond}
 use Rattle.capture_format.specs.Format.{firstFront, laterFront}
 use Rattle.capture_format.specs.Parts.{front}
-use Rattle.capture_feed.specs.Machine.{Fed, SoundReader, ReaderReady, advanced, kept, stepped, fed, withSizes}
+use Rattle.capture_feed.specs.Machine.{Fed, SoundReader, ReaderReady, advanced, kept, byteFed, fed, withSizes}
 use Rattle.capture_feed.specs.declared.Reader.{Reader}
 use Rattle.capture_format.specs.declared.Stage.{Stage}
 use Rattle.capture_format.specs.declared.Stage.the-variants.{First, Items, Ended, Broken}
@@ -87,7 +87,7 @@ module _ (r : Reader) (n : ℕ) (bytes : List ℕ) (long : length bytes ≡ 12) 
   advanced-ready parsed.End e z =
       record { sound = record { cells = long; midway = inl refl; counted = omega (arith, ready .sound .counted) }; room = omega (arith, ready .room) }
 
-pub step-ready : (f : Fed) (b n : ℕ) → ReaderReady (f .reader) (n + 1) → ReaderReady (stepped f b .reader) n
+pub step-ready : (f : Fed) (b n : ℕ) → ReaderReady (f .reader) (n + 1) → ReaderReady (byteFed f b .reader) n
 step-ready f b n ready =
     let r = f .reader in
     let bytes = set (r .pending) (r .have) b in
@@ -107,7 +107,7 @@ kept-length (parsed.Item x) i room = go (ltb i 64)
     go true = length-set room i x
     go false = refl
 
-pub step-room : (fd : Fed) (b : ℕ) → length (stepped fd b .sizes) ≡ length (fd .sizes)
+pub step-room : (fd : Fed) (b : ℕ) → length (byteFed fd b .sizes) ≡ length (fd .sizes)
 step-room fd b =
     let r = fd .reader in
     kept-length (front (r .stage) (take (r .have + 1) (set (r .pending) (r .have) b))) (r .items) (fd .sizes)
@@ -119,13 +119,13 @@ pub fed-ready : (l : List ℕ) (n : ℕ) (fd : Fed) → ReaderReady (fd .reader)
 unfolding fed
 fed-ready [] n fd ready = ready-less n (0 + n) (omega arith) ready
 fed-ready (b ∷ l) n fd ready =
-    fed-ready l n (stepped fd b)
+    fed-ready l n (byteFed fd b)
     (step-ready fd b (length l + n) (ready-less (length l + n + 1) (suc (length l) + n) (omega arith) ready))
 
 pub fed-room : (l : List ℕ) (fd : Fed) → length (fed fd l .sizes) ≡ length (fd .sizes)
 unfolding fed
 fed-room [] fd = refl
-fed-room (b ∷ l) fd = fed-room l (stepped fd b) ∙ step-room fd b
+fed-room (b ∷ l) fd = fed-room l (byteFed fd b) ∙ step-room fd b
 
 pub feed-ready : {r : Reader} {sizes : List Float} (fd : Fed) (l : List ℕ) (n : ℕ) → withSizes r sizes ≡ fed fd l → ReaderReady (fd .reader) (length l + n) → ReaderReady r n
 feed-ready fd l n e ready = subst (λ (f : Fed). ReaderReady (f .reader) n) (sym e) (fed-ready l n fd ready)

@@ -7,7 +7,7 @@ use native.Mathlib.Numerals.{add-one}
 use lib.ListN.{length, drop, getD}
 use lib.Seq.{drop-cons, drop-length}
 use lib.Ieee.{Float}
-use Rattle.capture_feed.specs.Machine.{Fed, withSizes, stepped, fed, ReaderReady}
+use Rattle.capture_feed.specs.Machine.{Fed, withSizes, byteFed, fed, ReaderReady}
 use Rattle.capture_feed.specs.declared.Reader.{Reader}
 use Rattle.capture_feed.proofs.Sound.{step-ready, ready-less}
 
@@ -24,7 +24,7 @@ pub can-step : {burst : List ℕ} {whole : Fed} {sizes : List Float} {r : Reader
 can-step {burst} {i = i} t h = ready-less 1 (length burst - i) (omega arith) (t .ready)
 
 pub turn : {burst : List ℕ} {whole : Fed} {sizes : List Float} {r : Reader} {i : ℕ} (sizes' : List Float) (r' : Reader)
-    → Turn burst whole sizes r i → i < length burst → withSizes r' sizes' ≡ stepped (withSizes r sizes) (getD burst i 0) → Turn burst whole sizes' r' (i + 1)
+    → Turn burst whole sizes r i → i < length burst → withSizes r' sizes' ≡ byteFed (withSizes r sizes) (getD burst i 0) → Turn burst whole sizes' r' (i + 1)
 unfolding fed
 turn {burst} {whole} {sizes} {r} {i} sizes' r' t h e = record {
   within = omega arith;
@@ -34,7 +34,7 @@ turn {burst} {whole} {sizes} {r} {i} sizes' r' t h e = record {
       (ready-less (length burst - (i + 1) + 1) (length burst - i) (omega arith) (t .ready)));
   to-come =
       ap (λ (f : Fed). fed f (drop (i + 1) burst)) e
-      ∙ (ap (λ (k : ℕ). fed (stepped (withSizes r sizes) (getD burst i 0)) (drop k burst)) (add-one i)
+      ∙ (ap (λ (k : ℕ). fed (byteFed (withSizes r sizes) (getD burst i 0)) (drop k burst)) (add-one i)
       ∙ (ap (λ (l : List ℕ). fed (withSizes r sizes) l) (sym (drop-cons burst i 0 h)) ∙ t .to-come));
 }
 

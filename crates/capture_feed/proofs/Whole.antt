@@ -9,7 +9,7 @@ use lib.ListN.{length, take, drop, length-take}
 use lib.Seq.{take-all}
 use lib.Ieee.{Float}
 use Rattle.capture_format.specs.Format.{firstFront, laterFront}
-use Rattle.capture_format.specs.Reading.{Rest, sizes, faulty, ending, items, Reading, whole, broken, byHead, reading, asWritten}
+use Rattle.capture_format.specs.Reading.{Rest, sizes, faulty, ending, itemRecords, Reading, whole, broken, byHead, reading, asWritten}
 use Rattle.capture_feed.specs.Machine.{Fed, withSizes, fed, started, finished, byStage, SoundReader, ReaderReady}
 use Rattle.capture_format.specs.declared.Head.{Head}
 use Rattle.capture_feed.specs.declared.Reader.{Reader}
@@ -48,7 +48,7 @@ from-start End t = refl
 
 pub starts : (room : List Float) (l : List ℕ) → resume (withSizes started room) l ≡ knownOf (reading asWritten l)
 unfolding resume coming reading
-starts room l = from-start (firstFront l) (items 12 (drop 12 l))
+starts room l = from-start (firstFront l) (itemRecords 12 (drop 12 l))
 
 pub started-sound : SoundReader started
 started-sound = record { cells = refl; midway = inl refl; counted = omega arith }

@@ -81,8 +81,8 @@ kept parsed.Broken i sizes = sizes
 kept (Head h) i sizes = sizes
 kept End i sizes = sizes
 
-abbrev pub stepped : Fed → ℕ → Fed
-stepped f b =
+abbrev pub byteFed : Fed → ℕ → Fed
+byteFed f b =
     let r = f .reader in
     let bytes = set (r .pending) (r .have) b in
     let found = front (r .stage) (take (r .have + 1) bytes) in
@@ -90,7 +90,7 @@ stepped f b =
 
 unfoldable pub fed : Fed → List ℕ → Fed
 fed f [] = f
-fed f (b ∷ bytes) = fed (stepped f b) bytes
+fed f (b ∷ bytes) = fed (byteFed f b) bytes
 
 -- before the first byte
 abbrev pub started : Reader

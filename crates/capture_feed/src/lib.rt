@@ -2,7 +2,7 @@
 ghost use mathlib.Core.Path.{_≡_};
 ghost use Prim.Native.Nat.{_+_, _≤_, _^_};
 ghost use lib.ListN.{length};
-ghost use Rattle.capture_feed.specs.Machine.{withSizes, advanced, kept, stepped, fed, started, finished};
+ghost use Rattle.capture_feed.specs.Machine.{withSizes, advanced, kept, byteFed, fed, started, finished};
 ghost use Rattle.capture_feed.specs.Machine.{ReaderReady};
 use capture_format::Head;
 use capture_format::Parsed;
@@ -117,7 +117,7 @@ fn keep(found: Parsed, item: usize, sizes: &mut [f32; 64])
 
 fn step(r: Reader, byte: u8, sizes: &mut [f32; 64]) -> Reader
     requires { ⌜ ReaderReady r 1 ⌝ }
-    ensures { λ s. ⌜ withSizes s (now (sizes .exit)) ≡ stepped (withSizes r (now (sizes .entry))) byte ⌝ }
+    ensures { λ s. ⌜ withSizes s (now (sizes .exit)) ≡ byteFed (withSizes r (now (sizes .entry))) byte ⌝ }
 {
     let have = r.have;
     let stage = r.stage;

@@ -10,8 +10,8 @@ use lib.ListN.{length, getD, drop}
 use lib.Ieee.{Float, binary32, ofBits}
 use Rattle.keywords.specs.Space.{spaceOf}
 use Rattle.keywords.specs.declared.AvailableSpace.the-variants.{MaxContent}
-use Rattle.capture_format.specs.Format.{kind, half, word, float, headOf, firstFront, laterFront}
-use Rattle.capture_format.specs.Reading.{Rest, sizes, faulty, more, byRecord, ending, itemsOf, items, whole, under, byHead, reading, asWritten, bySpace, asRead}
+use Rattle.capture_format.specs.Format.{kind, halfAt, word, floatAt, headOf, firstFront, laterFront}
+use Rattle.capture_format.specs.Reading.{Rest, sizes, faulty, more, byRecord, ending, recordsFrom, itemRecords, whole, under, byHead, reading, asWritten, bySpace, asRead}
 use Rattle.capture_format.specs.Written.{Numbers, All, Readable, Writable, bytesOf, itemBytes, captureBytes, headSaid, sizesSaid}
 use Rattle.capture_format.specs.declared.Head.{Head}
 use Rattle.capture_format.specs.declared.Parsed.{Parsed}
@@ -25,10 +25,10 @@ use Rattle.capture_format.proofs.Items.{items-by}
 four : (n : ℕ) → n < 2 ^ 32 → word (bytesOf 4 n) 0 ≡ n
 four n h = omega arith
 
-two : (n : ℕ) → n < 2 ^ 16 → half (bytesOf 2 n) 0 ≡ n
+two : (n : ℕ) → n < 2 ^ 16 → halfAt (bytesOf 2 n) 0 ≡ n
 two n h = omega arith
 
-items-complete : (place : ℕ) (l : List ℕ) → All (λ n. n < 2 ^ 32) l → items place (itemBytes l ++ (3 ∷ [])) ≡ sizes (map (ofBits binary32) l)
+items-complete : (place : ℕ) (l : List ℕ) → All (λ n. n < 2 ^ 32) l → itemRecords place (itemBytes l ++ (3 ∷ [])) ≡ sizes (map (ofBits binary32) l)
 unfolding ending
 items-complete place [] fit = items-by place (3 ∷ []) ∙ (rw (f.later-end (3 ∷ []) refl))
 items-complete place (n ∷ l) fit =
@@ -107,7 +107,7 @@ more-back : (t : Rest) (x : Float) (xs : List Float) → more x t ≡ sizes xs �
 more-back (sizes ys) x xs e = record { others = ys; rest-is = refl; all-is = cc }
 more-back (faulty place) x xs e = let z : _≡_ {A = ℕ} 0 1 = cc in absurd (omega arith)
 
-item-before : {t : Rest} {xs : List Float} (l : List ℕ) → Five l → All Byte l → kind l ≡ 2 → (m : More t (float l 1) xs) → Items (drop 5 l) (m .others) → Items l xs
+item-before : {t : Rest} {xs : List Float} (l : List ℕ) → Five l → All Byte l → kind l ≡ 2 → (m : More t (floatAt l 1) xs) → Items (drop 5 l) (m .others) → Items l xs
 item-before l (five k x y z w rest) b e m i = record {
   bits = word (k ∷ (x ∷ (y ∷ (z ∷ (w ∷ rest))))) 1 ∷ i .bits;
   fit = (word-fits x y z w (b .1 .0) (b .1 .1 .0) (b .1 .1 .1 .0) (b .1 .1 .1 .1 .0), i .fit);
@@ -129,19 +129,19 @@ drop-bytes zero l b = b
 drop-bytes (suc n) [] b = b
 drop-bytes (suc n) (x ∷ l) b = drop-bytes n l (b .1)
 
-items-sound : (n place : ℕ) (l : List ℕ) (xs : List Float) → All Byte l → itemsOf n place l ≡ sizes xs → Items l xs
-unfolding itemsOf
+items-sound : (n place : ℕ) (l : List ℕ) (xs : List Float) → All Byte l → recordsFrom n place l ≡ sizes xs → Items l xs
+unfolding recordsFrom
 items-sound zero place l xs b e = let z : _≡_ {A = ℕ} 0 1 = cc in absurd (omega arith)
 items-sound (suc n) place l xs b e = go (f.later-cases l) (λ ys w. items-sound n (place + 5) (drop 5 l) ys (drop-bytes 5 l b) w)
   where
-    by : (o : Parsed) → laterFront l ≡ o → byRecord o place (itemsOf n (place + 5) (drop 5 l)) (ending (place + 1) (drop 1 l)) ≡ sizes xs
-    by o w = sym (ap (λ (u : Parsed). byRecord u place (itemsOf n (place + 5) (drop 5 l)) (ending (place + 1) (drop 1 l))) w) ∙ e
+    by : (o : Parsed) → laterFront l ≡ o → byRecord o place (recordsFrom n (place + 5) (drop 5 l)) (ending (place + 1) (drop 1 l)) ≡ sizes xs
+    by o w = sym (ap (λ (u : Parsed). byRecord u place (recordsFrom n (place + 5) (drop 5 l)) (ending (place + 1) (drop 1 l))) w) ∙ e
 
-    go : f.Later l → ((ys : List Float) → itemsOf n (place + 5) (drop 5 l) ≡ sizes ys → Items (drop 5 l) ys) → Items l xs
+    go : f.Later l → ((ys : List Float) → recordsFrom n (place + 5) (drop 5 l) ≡ sizes ys → Items (drop 5 l) ys) → Items l xs
     go (f.Later.other h k) next = let y = by parsed.Broken (f.later-other l h k) in (let z : _≡_ {A = ℕ} 0 1 = cc in absurd (omega arith))
     go (f.Later.cut k m) next = let y = by parsed.Partial (f.later-cut l k m) in (let z : _≡_ {A = ℕ} 0 1 = cc in absurd (omega arith))
     go (f.Later.item k m) next =
-        let t = more-back (itemsOf n (place + 5) (drop 5 l)) (float l 1) xs (by (parsed.Item (float l 1)) (f.later-item l k m)) in
+        let t = more-back (recordsFrom n (place + 5) (drop 5 l)) (floatAt l 1) xs (by (parsed.Item (floatAt l 1)) (f.later-item l k m)) in
         item-before l (five-of l m) b k t (next (t .others) (t .rest-is))
     go (f.Later.end k) next = end-alone (place + 1) l xs k (by parsed.End (f.later-end l k))
 
@@ -195,18 +195,18 @@ head-before meaning l xs (twelve k j a b c d e m (five f' g h' p q r)) y one kin
 }
 
 pub sound : (meaning : Head → Head) (l : List ℕ) (h : Head) (xs : List Float) → All Byte l → reading meaning l ≡ whole h xs → Written Readable meaning l h xs
-unfolding reading items
+unfolding reading itemRecords
 sound meaning l h xs b e = go (f.first-cases l)
   where
-    by : (o : Parsed) → firstFront l ≡ o → byHead meaning o (items 12 (drop 12 l)) ≡ whole h xs
-    by o w = sym (ap (λ (u : Parsed). byHead meaning u (items 12 (drop 12 l))) w) ∙ e
+    by : (o : Parsed) → firstFront l ≡ o → byHead meaning o (itemRecords 12 (drop 12 l)) ≡ whole h xs
+    by o w = sym (ap (λ (u : Parsed). byHead meaning u (itemRecords 12 (drop 12 l))) w) ∙ e
 
     go : f.First l → Written Readable meaning l h xs
     go (f.First.other k) = let y = by parsed.Broken (f.first-other l k) in (let z : _≡_ {A = ℕ} 0 1 = cc in absurd (omega arith))
     go (f.First.bad k m) = let y = by parsed.Broken (f.first-bad l k m) in (let z : _≡_ {A = ℕ} 0 1 = cc in absurd (omega arith))
     go (f.First.cut k m n) = let y = by parsed.Partial (f.first-cut l k m n) in (let z : _≡_ {A = ℕ} 0 1 = cc in absurd (omega arith))
     go (f.First.whole k m n) =
-        let u = under-back (meaning (headOf l)) h (items 12 (drop 12 l)) xs (by (parsed.Head (headOf l)) (f.first-head l k m n)) in
+        let u = under-back (meaning (headOf l)) h (itemRecords 12 (drop 12 l)) xs (by (parsed.Head (headOf l)) (f.first-head l k m n)) in
         let i = items-sound (length (drop 12 l)) 12 (drop 12 l) xs (drop-bytes 12 l b) (u .1) in
         subst (λ (g : Head). Written Readable meaning l g xs) (u .0) (head-before meaning l xs (twelve-of l n) b k m i)
 

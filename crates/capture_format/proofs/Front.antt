@@ -6,7 +6,7 @@ use lib.ListN.{length, getD, length-append, List·getD-append}
 use native.Mathlib.Decide.{ℕ-discrete, decLe}
 use borrow.Author.Tests.{eq-eqb, ne-eqb, le-leb, lt-leb}
 use native.Mathlib.Omega.{arith}
-use Rattle.capture_format.specs.Format.{headOf, float, kind, firstFront, laterFront}
+use Rattle.capture_format.specs.Format.{headOf, floatAt, kind, firstFront, laterFront}
 use Rattle.capture_format.specs.declared.Parsed.the-variants.{Head, Item, End, Partial, Broken}
 
 pub none-second : (l : List ℕ) → length l < 2 → getD l 1 0 ≡ 0
@@ -43,7 +43,7 @@ module _ (l : List ℕ) where
   unfolding laterFront
   later-cut k n = simp (eq-eqb _ _ k, lt-leb _ _ n)
 
-  pub later-item : kind l ≡ 2 → 5 ≤ length l → laterFront l ≡ Item (float l 1)
+  pub later-item : kind l ≡ 2 → 5 ≤ length l → laterFront l ≡ Item (floatAt l 1)
   unfolding laterFront
   later-item k n = simp (eq-eqb _ _ k, le-leb _ _ n)
 
@@ -104,7 +104,7 @@ later-partial l e = go (later-cases l)
     go : Later l → length l < 5
     go (Later.other h k) = let z : Broken ≡ Partial = sym (later-other l h k) ∙ e in (let w : _≡_ {A = ℕ} 0 1 = cc in absurd (omega arith))
     go (Later.cut k n) = n
-    go (Later.item k n) = let z : Item (float l 1) ≡ Partial = sym (later-item l k n) ∙ e in (let w : _≡_ {A = ℕ} 0 1 = cc in absurd (omega arith))
+    go (Later.item k n) = let z : Item (floatAt l 1) ≡ Partial = sym (later-item l k n) ∙ e in (let w : _≡_ {A = ℕ} 0 1 = cc in absurd (omega arith))
     go (Later.end k) = let z : End ≡ Partial = sym (later-end l k) ∙ e in (let w : _≡_ {A = ℕ} 0 1 = cc in absurd (omega arith))
 
 pub later-not-end : (l : List ℕ) → kind l ≡ 2 → laterFront l ≡ End → ⊥
@@ -113,7 +113,7 @@ later-not-end l k e = go (later-cases l)
     go : Later l → ⊥
     go (Later.other h m) = h k
     go (Later.cut m n) = let z : Partial ≡ End = sym (later-cut l m n) ∙ e in (let w : _≡_ {A = ℕ} 0 1 = cc in absurd (omega arith))
-    go (Later.item m n) = let z : Item (float l 1) ≡ End = sym (later-item l m n) ∙ e in (let w : _≡_ {A = ℕ} 0 1 = cc in absurd (omega arith))
+    go (Later.item m n) = let z : Item (floatAt l 1) ≡ End = sym (later-item l m n) ∙ e in (let w : _≡_ {A = ℕ} 0 1 = cc in absurd (omega arith))
     go (Later.end m) = absurd (omega arith)
 
 -- ---- more bytes
@@ -158,7 +158,7 @@ module _ (l rest : List ℕ) where
         at 11 (omega arith),
       )
 
-  same-float : 5 ≤ length l → float (l ++ rest) 1 ≡ float l 1
+  same-float : 5 ≤ length l → floatAt (l ++ rest) 1 ≡ floatAt l 1
   same-float n = simp (at 1 (omega arith), at 2 (omega arith), at 3 (omega arith), at 4 (omega arith))
 
   pub first-still-head : kind l ≡ 1 → getD l 1 0 ≤ 2 → 12 ≤ length l → firstFront (l ++ rest) ≡ Head (headOf l)
@@ -168,7 +168,7 @@ module _ (l rest : List ℕ) where
   pub later-still-other : 0 < length l → (kind l ≡ 2 → ⊥) → (kind l ≡ 3 → ⊥) → laterFront (l ++ rest) ≡ Broken
   later-still-other n h k = later-other (l ++ rest) (λ e. h (sym (at 0 n) ∙ e)) (λ e. k (sym (at 0 n) ∙ e))
 
-  pub later-still-item : kind l ≡ 2 → 5 ≤ length l → laterFront (l ++ rest) ≡ Item (float l 1)
+  pub later-still-item : kind l ≡ 2 → 5 ≤ length l → laterFront (l ++ rest) ≡ Item (floatAt l 1)
   later-still-item k n = later-item (l ++ rest) (at 0 (omega arith) ∙ k) (omega (arith, longer)) ∙ ap Item (same-float n)
 
   pub later-still-end : kind l ≡ 3 → laterFront (l ++ rest) ≡ End

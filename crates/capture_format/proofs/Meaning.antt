@@ -4,7 +4,7 @@ use mathlib.Core.List.{List}
 use Prim.Native.Nat.{ℕ}
 use lib.ListN.{drop}
 use Rattle.capture_format.specs.Format.{firstFront}
-use Rattle.capture_format.specs.Reading.{Rest, sizes, faulty, items, Reading, whole, broken, byHead, reading, asWritten}
+use Rattle.capture_format.specs.Reading.{Rest, sizes, faulty, itemRecords, Reading, whole, broken, byHead, reading, asWritten}
 use Rattle.capture_format.specs.declared.Head.{Head}
 use Rattle.capture_format.specs.declared.Parsed.{Parsed}
 use Rattle.capture_format.specs.declared.Parsed.the-variants as parsed
@@ -23,4 +23,4 @@ by-head meaning parsed.End t = refl
 
 pub reading-meant : (meaning : Head → Head) (l : List ℕ) → reading meaning l ≡ meant meaning (reading asWritten l)
 unfolding reading
-reading-meant meaning l = by-head meaning (firstFront l) (items 12 (drop 12 l))
+reading-meant meaning l = by-head meaning (firstFront l) (itemRecords 12 (drop 12 l))

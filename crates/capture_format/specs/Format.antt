@@ -12,20 +12,24 @@ use Rattle.capture_format.specs.declared.Parsed.{Parsed}
 use Rattle.capture_format.specs.declared.Parsed.the-variants as parsed
 
 -- "Little-endian": the number of two bytes, and of four, from a place of the list
-abbrev pub half : List ℕ → ℕ → ℕ
-half bytes i = getD bytes i 0 + 256 * getD bytes (i + 1) 0
+abbrev pub halfAt : List ℕ → ℕ → ℕ
+halfAt bytes i = getD bytes i 0 + 256 * getD bytes (i + 1) 0
 
 abbrev pub word : List ℕ → ℕ → ℕ
-word bytes i = half bytes i + 65536 * half bytes (i + 2)
+word bytes i = halfAt bytes i + 65536 * halfAt bytes (i + 2)
 
 -- the float of four bytes: every NaN reads as the one NaN
-abbrev pub float : List ℕ → ℕ → Float
-float bytes i = ofBits binary32 (word bytes i)
+abbrev pub floatAt : List ℕ → ℕ → Float
+floatAt bytes i = ofBits binary32 (word bytes i)
 
 -- "Kind 1, 11 bytes: limit kind .., limit f32, gap f32, minimum u16". `spaceOf` is "limit kind (0 definite, 1 min, 2
 -- max)", and "The limit field is read only under kind 0"
 abbrev pub headOf : List ℕ → Head
-headOf bytes = record { limit = spaceOf (getD bytes 1 0) (float bytes 2); gap = float bytes 6; minimum = half bytes 10 }
+headOf bytes = record {
+  limit = spaceOf (getD bytes 1 0) (floatAt bytes 2);
+  gap = floatAt bytes 6;
+  minimum = halfAt bytes 10;
+}
 
 abbrev pub pick : Bool → Parsed → Parsed → Parsed
 pick true a b = a
@@ -46,5 +50,5 @@ firstFront bytes =
 unfoldable pub laterFront : List ℕ → Parsed
 laterFront bytes =
     pick (eqb (kind bytes) 2)
-    (pick (leb 5 (length bytes)) (parsed.Item (float bytes 1)) parsed.Partial)
+    (pick (leb 5 (length bytes)) (parsed.Item (floatAt bytes 1)) parsed.Partial)
     (pick (eqb (kind bytes) 3) parsed.End parsed.Broken)

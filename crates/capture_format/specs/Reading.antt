@@ -36,16 +36,16 @@ byRecord (parsed.Head head) place next end = faulty place
 
 -- the first records after kind 1, at most `most` of them; where none stands, the place is "the input's length for a
 -- missing end"
-unfoldable pub itemsOf : ℕ → ℕ → List ℕ → Rest
+unfoldable pub recordsFrom : ℕ → ℕ → List ℕ → Rest
 unfolding ending
-itemsOf zero place bytes = faulty place
-itemsOf (suc most) place bytes =
-    byRecord (laterFront bytes) place (itemsOf most (place + 5) (drop 5 bytes)) (ending (place + 1) (drop 1 bytes))
+recordsFrom zero place bytes = faulty place
+recordsFrom (suc most) place bytes =
+    byRecord (laterFront bytes) place (recordsFrom most (place + 5) (drop 5 bytes)) (ending (place + 1) (drop 1 bytes))
 
 -- items, and the end: there are no more records than bytes
-unfoldable pub items : ℕ → List ℕ → Rest
-unfolding itemsOf
-items place bytes = itemsOf (length bytes) place bytes
+unfoldable pub itemRecords : ℕ → List ℕ → Rest
+unfolding recordsFrom
+itemRecords place bytes = recordsFrom (length bytes) place bytes
 
 -- a capture's numbers, or where it breaks
 pub data Reading : Type 0 where
@@ -67,8 +67,8 @@ byHead meaning parsed.End rest = broken 0
 
 -- "One kind 1 first": 0 is the place of an empty input too
 unfoldable pub reading : (Head → Head) → List ℕ → Reading
-unfolding items
-reading meaning bytes = byHead meaning (firstFront bytes) (items 12 (drop 12 bytes))
+unfolding itemRecords
+reading meaning bytes = byHead meaning (firstFront bytes) (itemRecords 12 (drop 12 bytes))
 
 -- ---- what a head means
 

@@ -4,7 +4,7 @@ ghost use mathlib.Core.Path.{_≡_};
 ghost use Prim.Native.Nat.{_+_, _≤_, _<_};
 ghost use lib.ListN.{length};
 ghost use lib.Ieee.{binary32, ofBits};
-ghost use Rattle.capture_format.specs.Format.{half, word, float, headOf, firstFront, laterFront};
+ghost use Rattle.capture_format.specs.Format.{halfAt, word, floatAt, headOf, firstFront, laterFront};
 ghost use Rattle.capture_format.specs.Reading.{oneEach, asRead};
 ghost use Rattle.capture_format.specs.Parts.{front};
 use keywords::AvailableSpace;
@@ -39,7 +39,7 @@ pub enum Parsed {
 
 fn half_at(bytes: &[u8], at: usize) -> u32
     requires { ⌜ at + 2 ≤ length (now bytes) ⌝ }
-    ensures { λ r. ⌜ (r ≡ half (now (bytes .entry)) at) × (r < 65536) ⌝ }
+    ensures { λ r. ⌜ (r ≡ halfAt (now (bytes .entry)) at) × (r < 65536) ⌝ }
 {
     bytes[at] as u32 + 256 * (bytes[at + 1] as u32)
 }
@@ -64,7 +64,7 @@ fn float_of(bits: u32) -> f32
 
 fn float_at(bytes: &[u8], at: usize) -> f32
     requires { ⌜ at + 4 ≤ length (now bytes) ⌝ }
-    ensures { λ r. ⌜ r ≡ float (now (bytes .entry)) at ⌝ }
+    ensures { λ r. ⌜ r ≡ floatAt (now (bytes .entry)) at ⌝ }
 {
     float_of(word_at(bytes, at))
 }

@@ -1,5 +1,5 @@
 -- P1 TO P15 of document 01, one table: a row has a case's inputs and then document 01's answers, lengths in whole
--- pixels, and `RowHolds` is what it claims of the definitions that the contracts cite: they give these answers and no
+-- px, and `RowHolds` is what it claims of the definitions that the contracts cite: they give these answers and no
 -- others. `table-holds` of proofs/Table.antt is the proof. Assumes nothing.
 use mathlib.Core.Path.{_≡_}
 use mathlib.Core.Bool.{false}
@@ -23,11 +23,11 @@ use Rattle.place_cross.specs.Lines.{Aligned}
 
 -- ---- whole pixels: in sixty-fourths, and as a float
 
-abbrev pub px : ℕ → ℤ
-px n = pos (n * 64)
+abbrev pub wholePx : ℕ → ℤ
+wholePx n = pos (n * 64)
 
-unfoldable pub float : ℕ → Float
-float n = ofInt binary32 (pos n)
+unfoldable pub px : ℕ → Float
+px n = ofInt binary32 (pos n)
 
 -- ---- the rows
 
@@ -35,13 +35,13 @@ float n = ofInt binary32 (pos n)
 unfoldable pub flexible : Float → Float → Float → Float → Item
 flexible base maximum grow shrink = record {
   base = base;
-  minimum = float 0;
+  minimum = px 0;
   maximum = maximum;
-  edges = float 0;
+  edges = px 0;
   grow = grow;
   shrink = shrink;
-  start = float 0;
-  end = float 0;
+  start = px 0;
+  end = px 0;
 }
 
 unfoldable pub none : Float
@@ -64,7 +64,7 @@ pub data Row : Type 0 where
   stretched : List ℕ → ℕ → ℕ → List ℕ → Row
 
 abbrev pub limit : ℕ → Limit
-limit n = definite (px n)
+limit n = definite (wholePx n)
 
 unfoldable pub table : List Row
 table =
@@ -82,13 +82,13 @@ table =
     ∷ balanced [] (limit 100) 0 1 []
     ∷ balanced (5 ∷ 6 ∷ []) max-content 0 0 (2 ∷ [])
     -- P10 to P13, with their free space and the rounds of all, of which document 01 gives those of P10 and P11
-    ∷ flexed 300 (flexible (float 100) none (float 1) (float 1) ∷ flexible (float 100) none (float 3) (float 1) ∷ [])
-    (px 100) (125 ∷ 175 ∷ []) 1
-    ∷ flexed 300 (flexible (float 100) none (float 1) (float 1) ∷ flexible (float 100) (float 120) (float 3) (float 1) ∷
-    []) (px 100) (180 ∷ 120 ∷ []) 2
-    ∷ flexed 300 (flexible (float 100) none half (float 1) ∷ []) (px 200) (200 ∷ []) 1
-    ∷ flexed 150 (flexible (float 100) none (float 0) (float 1) ∷ flexible (float 100) none (float 0) (float 1) ∷ [])
-    (negℤ (px 50)) (75 ∷ 75 ∷ []) 1
+    ∷ flexed 300 (flexible (px 100) none (px 1) (px 1) ∷ flexible (px 100) none (px 3) (px 1) ∷ [])
+    (wholePx 100) (125 ∷ 175 ∷ []) 1
+    ∷ flexed 300 (flexible (px 100) none (px 1) (px 1) ∷ flexible (px 100) (px 120) (px 3) (px 1) ∷ [])
+    (wholePx 100) (180 ∷ 120 ∷ []) 2
+    ∷ flexed 300 (flexible (px 100) none half (px 1) ∷ []) (wholePx 200) (200 ∷ []) 1
+    ∷ flexed 150 (flexible (px 100) none (px 0) (px 1) ∷ flexible (px 100) none (px 0) (px 1) ∷ [])
+    (negℤ (wholePx 50)) (75 ∷ 75 ∷ []) 1
     -- P14
     ∷ spaced 3 60 5 SpaceBetween (0 ∷ 35 ∷ 35 ∷ [])
     -- P15
@@ -101,15 +101,15 @@ table =
 
 -- the answers, and after them the lent cells as they were
 abbrev pub onto : List ℕ → List Float → List Float
-onto answers cells = map float answers ++ drop (length answers) cells
+onto answers cells = map px answers ++ drop (length answers) cells
 
 -- a container that wraps, of a given inner cross size and with no bounds
 unfoldable pub container : ℕ → ℕ → Cross
 container gap size = record {
-  inner = Given (float size);
+  inner = Given (px size);
   minimum = Absent;
   maximum = Absent;
-  gap = float gap;
+  gap = px gap;
   wrap = wrap.Wrap;
 }
 
@@ -117,32 +117,32 @@ container gap size = record {
 pub record Plain (inner : Float) (l : LineLists) (n free gap : ℕ) : Type 0 where
   pub items : count l ≡ n
   pub autos : autoCount l ≡ 0
-  pub space : freeSpace inner (float gap) l ≡ float free
+  pub space : freeSpace inner (px gap) l ≡ px free
 
 abbrev pub RowHolds : Row → Type 0
 -- the plain rule of balanced breaking
 RowHolds (balanced sizes limit gap minimum counts) =
-    Balanced limit (px gap) (map px sizes) minimum counts × ((d : List ℕ)
-    → Balanced limit (px gap) (map px sizes) minimum d → d ≡ counts)
-RowHolds (greedily sizes limit gap counts) = greedy limit (px gap) (map px sizes) ≡ counts
+    Balanced limit (wholePx gap) (map wholePx sizes) minimum counts × ((d : List ℕ)
+    → Balanced limit (wholePx gap) (map wholePx sizes) minimum d → d ≡ counts)
+RowHolds (greedily sizes limit gap counts) = greedy limit (wholePx gap) (map wholePx sizes) ≡ counts
 -- 9.7 of a line with no gap
 RowHolds (flexed inner items free sizes rounds) =
-    ((old : List Float) → Flexed (float inner) (float 0) items free rounds old (onto sizes old))
-    × ((f : ℤ) (r : ℕ) (old new : List Float) → Flexed (float inner) (float 0) items f r old new → (f ≡ free)
+    ((old : List Float) → Flexed (px inner) (px 0) items free rounds old (onto sizes old))
+    × ((f : ℤ) (r : ℕ) (old new : List Float) → Flexed (px inner) (px 0) items f r old new → (f ≡ free)
     × (r ≡ rounds) × (new ≡ onto sizes old))
 -- the main axis of every such line, and there is one
 RowHolds (spaced n free gap keyword offsets) =
     ((inner : Float) × (l : LineLists) × Plain inner l n free gap)
     × ((inner : Float) (l : LineLists) → Plain inner l n free gap → (o s e : List Float)
-    → ((s₁ : List Float) × (e₁ : List Float) × Spaced inner (float gap) (Spread keyword) false l o s e (onto offsets o)
+    → ((s₁ : List Float) × (e₁ : List Float) × Spaced inner (px gap) (Spread keyword) false l o s e (onto offsets o)
     s₁ e₁)
-    × ((o₁ s₁ e₁ : List Float) → Spaced inner (float gap) (Spread keyword) false l o s e o₁ s₁ e₁
+    × ((o₁ s₁ e₁ : List Float) → Spaced inner (px gap) (Spread keyword) false l o s e o₁ s₁ e₁
     → o₁ ≡ onto offsets o))
 -- the cross axis under stretch
 RowHolds (stretched lines gap size sizes) =
     (s o : List Float) → ((inner : Float) × (o₁ : List Float)
-    × Aligned (container gap size) (Spread Stretch) (map float lines) s o inner (onto sizes s) o₁)
-    × ((inner : Float) (s₁ o₁ : List Float) → Aligned (container gap size) (Spread Stretch) (map float lines) s o inner
+    × Aligned (container gap size) (Spread Stretch) (map px lines) s o inner (onto sizes s) o₁)
+    × ((inner : Float) (s₁ o₁ : List Float) → Aligned (container gap size) (Spread Stretch) (map px lines) s o inner
     s₁ o₁ → s₁ ≡ onto sizes s)
 
 -- THE STATEMENT: every row of the table holds

@@ -1,7 +1,7 @@
 // The call that places the items of a line across it, for a host in C or C++ (include/fratolivem.h): the call inside
 // it, on any bits.
 ghost use mathlib.Core.Path.{_≡_};
-ghost use Rattle.place_size.specs.CrossSize.{items};
+ghost use Rattle.place_size.specs.CrossSize.{crossLists};
 ghost use Rattle.place_across_call.specs.AcrossCall.{acrossCall};
 ghost use Rattle.export_across.specs.Placed.{cAcross, acrossFromC};
 use export_answer::CAnswer;
@@ -28,7 +28,7 @@ pub extern "C" fn fratolivem_place_across<'a>(
 ) -> CAnswer
     ensures { λ r. ⌜ cAcross r (now (sizes .exit)) (now («used_start» .exit)) (now («used_end» .exit))
         (now (offsets .exit)) ≡ acrossFromC (acrossCall line reversed
-        (items (now (measured .entry)) (now (minimum .entry)) (now (maximum .entry)) (now («has_maximum» .entry))
+        (crossLists (now (measured .entry)) (now (minimum .entry)) (now (maximum .entry)) (now («has_maximum» .entry))
         (now (edges .entry)) (now (start .entry)) (now (end .entry)) (now («auto_start» .entry))
         (now («auto_end» .entry))) (now («align_self» .entry)) (now («auto_size» .entry)) (now (sizes .entry))
         (now («used_start» .entry)) (now («used_end» .entry)) (now (offsets .entry))) ⌝ }

@@ -1,7 +1,7 @@
 // The calls that size a line and place lines along the cross axis, for a host in C or C++ (include/fratolivem.h). Each
 // is the call inside it, and takes any bits.
 ghost use mathlib.Core.Path.{_≡_};
-ghost use Rattle.place_size.specs.CrossSize.{items};
+ghost use Rattle.place_size.specs.CrossSize.{crossLists};
 ghost use Rattle.place_size_call.specs.SizeCall.{sizeCall};
 ghost use Rattle.place_lines_call.specs.LinesCall.{linesCall};
 ghost use Rattle.export_lines.specs.Sized.{cSize, cNothing, cLine, cLines, cAligned, linesFromC};
@@ -73,7 +73,8 @@ pub extern "C" fn fratolivem_line_size<'a>(
     auto_start: &'a [u32],
     auto_end: &'a [u32],
 ) -> CSized
-    ensures { λ r. ⌜ r ≡ cLine (sizeCall c (items (now (measured .entry)) (now (minimum .entry)) (now (maximum .entry))
+    ensures { λ r. ⌜ r ≡ cLine (sizeCall c (crossLists (now (measured .entry)) (now (minimum .entry))
+        (now (maximum .entry))
         (now («has_maximum» .entry)) (now (edges .entry)) (now (start .entry)) (now (end .entry))
         (now («auto_start» .entry)) (now («auto_end» .entry)))) ⌝ }
 {

@@ -4,7 +4,7 @@ use mathlib.Core.List.{List, map}
 use lib.Dec.{lit<}
 use lib.ListN.{length}
 use Rattle.flex.specs.Items.{lists}
-use Rattle.place_size.specs.CrossSize.{items}
+use Rattle.place_size.specs.CrossSize.{crossLists}
 use Rattle.pass_container.specs.Columns.{column, mainLists, crossItems, alignSelf, autoSize}
 use Rattle.pass_items.specs.declared.Item.{Item}
 use Rattle.pass_items.specs.Items.{numbersOf, codesOf}
@@ -24,10 +24,10 @@ module _ (xs : List Item) where
 
   pub cross-fields :
       crossItems (length xs) (numbersOf xs) (codesOf xs)
-      ≡ items (each (λ x. x .«cross_measured»)) (each (λ x. x .«cross_minimum»)) (each (λ x. x .«cross_maximum»)) (each (λ x. x .«has_cross_maximum»)) (each (λ x. x .«cross_edges»))
+      ≡ crossLists (each (λ x. x .«cross_measured»)) (each (λ x. x .«cross_minimum»)) (each (λ x. x .«cross_maximum»)) (each (λ x. x .«has_cross_maximum»)) (each (λ x. x .«cross_edges»))
       (each (λ x. x .«cross_start»)) (each (λ x. x .«cross_end»)) (each (λ x. x .«auto_cross_start»)) (each (λ x. x .«auto_cross_end»))
   unfolding column
-  cross-fields = λ i. items (numbers-at xs 8 (lit< tt) i) (numbers-at xs 9 (lit< tt) i) (numbers-at xs 10 (lit< tt) i) (codes-at xs 3 (lit< tt) i) (numbers-at xs 11 (lit< tt) i)
+  cross-fields = λ i. crossLists (numbers-at xs 8 (lit< tt) i) (numbers-at xs 9 (lit< tt) i) (numbers-at xs 10 (lit< tt) i) (codes-at xs 3 (lit< tt) i) (numbers-at xs 11 (lit< tt) i)
       (numbers-at xs 12 (lit< tt) i) (numbers-at xs 13 (lit< tt) i) (codes-at xs 4 (lit< tt) i) (codes-at xs 5 (lit< tt) i)
 
   pub self-fields : alignSelf (length xs) (codesOf xs) ≡ each (λ x. x .«align_self»)

@@ -9,10 +9,10 @@ use Rattle.flex.specs.declared.Item.{Item}
 use Rattle.flex.specs.declared.Line.{Line}
 use Rattle.flex.specs.declared.Share.{Share}
 use Rattle.flex.specs.declared.Sums.{Sums}
-use Rattle.flex.specs.Flex.{Cell, total, left, taken, remaining, limited, share, violation, settle, round}
+use Rattle.flex.specs.Flex.{Cell, total, left, outerNow, remaining, limited, share, violation, settle, round}
 use Rattle.flex.specs.Steps.{Summed, spaceLeft, shareOf, sized, settled}
 
-pub remaining-is : (inner gap : Float) (cells : List Cell) (n : ℕ) (outer : Float) → n ≡ length cells → outer ≡ total taken cells → spaceLeft inner gap n outer ≡ remaining inner gap cells
+pub remaining-is : (inner gap : Float) (cells : List Cell) (n : ℕ) (outer : Float) → n ≡ length cells → outer ≡ total outerNow cells → spaceLeft inner gap n outer ≡ remaining inner gap cells
 remaining-is inner gap cells n outer e o = ap₂ (λ (k : ℕ) (x : Float). spaceLeft inner gap k x) e o
 
 share-is : (ln : Line) (cells : List Cell) (n : ℕ) (s : Sums) → n ≡ length cells → Summed (ln .growing) cells s → shareOf ln n s ≡ share ln cells

@@ -101,12 +101,12 @@ begun inner gap items = map (startCell (grows inner gap items)) items
 -- ---- step 3, initial free space; and step 4b, remaining free space
 
 -- "frozen targets and unfrozen bases, with margins"
-abbrev pub taken : Cell → Float
-taken c = outer (c .item) (cond (c .frozen) (c .target) (c .item .base))
+abbrev pub outerNow : Cell → Float
+outerNow c = outer (c .item) (cond (c .frozen) (c .target) (c .item .base))
 
 -- "inner size less used space", which is the gaps plus the finished sum
 abbrev pub remaining : Float → Float → List Cell → Float
-remaining inner gap cells = inner ⊖ (gaps gap (length cells) ⊕ total taken cells)
+remaining inner gap cells = inner ⊖ (gaps gap (length cells) ⊕ total outerNow cells)
 
 -- what the rounds of a line go by
 abbrev pub lineOf : Float → Float → List Item → Line

@@ -10,19 +10,20 @@ use Rattle.flex.specs.declared.Item.{Item}
 use Rattle.flex.specs.declared.Line.{Line}
 use Rattle.flex.specs.declared.Share.{Share}
 use Rattle.flex.specs.declared.Sums.{Sums}
-use Rattle.flex.specs.Flex.{Cell, clamp, taken, factor, weight, limited, total, left, unfrozen, flexed, freezes}
+use Rattle.flex.specs.Flex.{Cell, clamp, outerNow, factor, weight, limited, total, left, unfrozen, flexed}
+use Rattle.flex.specs.Flex.{freezes}
 
 -- ---- the sums
 
 -- one more cell
 pub record Added (growing : Bool) (it : Item) (frozen : Bool) (target : Float) (s r : Sums) : Type 0 where
-  pub outer : r .outer ≡ s .outer ⊕ taken (record { item = it; frozen = frozen; target = target })
+  pub outer : r .outer ≡ s .outer ⊕ outerNow (record { item = it; frozen = frozen; target = target })
   pub factors : r .factors ≡ cond frozen (s .factors) (s .factors ⊕ factor growing it)
   pub weights : r .weights ≡ cond frozen (s .weights) (s .weights ⊕ weight growing it)
   pub number : r .left ≡ cond frozen (s .left) (s .left + 1)
 
 pub record Summed (growing : Bool) (cells : List Cell) (r : Sums) : Type 0 where
-  pub outer : r .outer ≡ total taken cells
+  pub outer : r .outer ≡ total outerNow cells
   pub factors : r .factors ≡ total (λ c. factor growing (c .item)) (left cells)
   pub weights : r .weights ≡ total (λ c. weight growing (c .item)) (left cells)
   pub number : r .left ≡ unfrozen cells

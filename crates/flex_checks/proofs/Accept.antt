@@ -25,7 +25,7 @@ use Rattle.checks.proofs.Checks.{judged-checked, then-passed, fine-append, fine
 use Rattle.checks.proofs.Marked.{shaped}
 use Rattle.grid.specs.Floats.{nought}
 use Rattle.flex.specs.Items.{Lists, count, itemAt}
-use Rattle.flex_checks.specs.Input.{shapeOf, plainAt, inputOf}
+use Rattle.flex_checks.specs.Input.{flexShape, plainAt, inputOf}
 use Rattle.flex.specs.Accepted.{Margin, Measured, Even}
 
 -- ---- checks 1 and 2
@@ -35,7 +35,7 @@ abbrev others : Lists → List ℕ
 others ls =
     length (ls .minimum) ∷ length (ls .maximum) ∷ length (ls .has-maximum) ∷ length (ls .edges) ∷ length (ls .grow) ∷ length (ls .shrink) ∷ length (ls .start) ∷ length (ls .end) ∷ length (ls .auto-start) ∷ length (ls .auto-end) ∷ []
 
-pub even-of : (ls : Lists) (room : ℕ) → shapeOf ls room ≡ Passed → Even ls × (count ls ≤ room)
+pub even-of : (ls : Lists) (room : ℕ) → flexShape ls room ≡ Passed → Even ls × (count ls ≤ room)
 even-of ls room h =
     let p = shaped (count ls) (others ls) (room ∷ []) h in
     let a = p .1 in (

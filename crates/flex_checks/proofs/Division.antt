@@ -11,7 +11,7 @@ use Rattle.checks.specs.Marks.{mark, leastOf, leastUpTo, leastMark, Fine}
 use Rattle.checks.specs.declared.Verdict.the-variants.{Passed}
 use Rattle.checks.proofs.Checks.{then-passed, shape-passed, fine-code, least-append, least-one}
 use Rattle.flex.specs.Items.{Lists, count}
-use Rattle.flex_checks.specs.Input.{inputOf, shapeOf}
+use Rattle.flex_checks.specs.Input.{inputOf, flexShape}
 use Rattle.flex.specs.Accepted.{Even}
 use Rattle.lists.specs.ByLine.{lineStart, divides}
 use Rattle.flex_lines.proofs.Counting.{divides-so}
@@ -46,6 +46,6 @@ module _ (inner gap : Float) (counts : List ℕ) (ls : Lists) where
 
 pub shape-of : (counts : List ℕ) (ls : Lists) (room : ℕ) → linesShape counts ls room ≡ Passed → (length counts ≤ 1024) × Even ls × (count ls ≤ room)
 shape-of counts ls room h =
-    let p = then-passed (shape (length counts) true) (shapeOf ls room) h in
+    let p = then-passed (shape (length counts) true) (flexShape ls room) h in
     let e = even-of ls room (p .1) in
     (shape-passed (length counts) true (p .0) .0, e .0, e .1)

@@ -10,11 +10,11 @@ use Rattle.checks.specs.declared.Kind.the-variants.{Size}
 use Rattle.checks.specs.declared.Verdict.{Verdict}
 use Rattle.flex.specs.Items.{Lists, count}
 use Rattle.lists.specs.ByLine.{divides}
-use Rattle.flex_checks.specs.Input.{shapeOf, inputOf}
+use Rattle.flex_checks.specs.Input.{flexShape, inputOf}
 
 -- the list of counts is an input list too; it is as long as there are lines
 abbrev pub linesShape : List ℕ → Lists → ℕ → Verdict
-linesShape counts ls room = then (shape (length counts) true) (shapeOf ls room)
+linesShape counts ls room = then (shape (length counts) true) (flexShape ls room)
 
 -- Document 01's table has no row for counts that divide no n items. They are taken as one number of the container,
 -- beside its inner size and gap, that is out of range: check 5, at the container, before any item's. It passes, as the

@@ -20,8 +20,8 @@ lengths ls =
     length (ls .auto-end) ∷ []
 
 -- the lists are of one length, and there are as many cells for the targets
-abbrev pub shapeOf : Lists → ℕ → Verdict
-shapeOf ls room = shapes.shapeOf (lengths ls) (room ∷ []) (count ls)
+abbrev pub flexShape : Lists → ℕ → Verdict
+flexShape ls room = shapes.shapeOf (lengths ls) (room ∷ []) (count ls)
 
 -- ---- checks 3, 4 and 5: the numbers that are taken
 

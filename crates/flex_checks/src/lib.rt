@@ -9,7 +9,7 @@ ghost use Rattle.checks.specs.Marks.{leastOf, leastUpTo, leastMark, judged};
 ghost use Rattle.checks.specs.Shapes as shapes;
 ghost use Rattle.flex.specs.Items.{lists};
 ghost use Rattle.flex.specs.Accepted.{Even};
-ghost use Rattle.flex_checks.specs.Input.{shapeOf, plainAt, inputOf};
+ghost use Rattle.flex_checks.specs.Input.{flexShape, plainAt, inputOf};
 use checks::Kind;
 use checks::Mark;
 use checks::Verdict;
@@ -127,7 +127,7 @@ pub fn check_line<'a>(
     auto_end: &'a [u32],
     room: usize,
 ) -> Verdict
-    ensures { λ r. ⌜ r ≡ then (shapeOf (lists (now (base .entry)) (now (minimum .entry)) (now (maximum .entry))
+    ensures { λ r. ⌜ r ≡ then (flexShape (lists (now (base .entry)) (now (minimum .entry)) (now (maximum .entry))
         (now («has_maximum» .entry)) (now (edges .entry)) (now (grow .entry)) (now (shrink .entry)) (now (start .entry))
         (now (end .entry)) (now («auto_start» .entry)) (now («auto_end» .entry))) room)
         (judged (leastMark (inputOf inner gap (lists (now (base .entry)) (now (minimum .entry)) (now (maximum .entry))

@@ -15,7 +15,7 @@ use Rattle.checks.proofs.Checks.{judged-checked, accepted, then-passed}
 use Rattle.flex.specs.declared.Item.{Item}
 use Rattle.flex.specs.Flex.{outerSum}
 use Rattle.flex.specs.Items.{Lists, itemsOf}
-use Rattle.flex_checks.specs.Input.{shapeOf, inputOf}
+use Rattle.flex_checks.specs.Input.{flexShape, inputOf}
 use Rattle.flex_checks.proofs.Accept.{even-of, refused-then, passed-then}
 use Rattle.flex_line_call.specs.declared.FlexAnswer.{FlexAnswer}
 use Rattle.flex_line_call.specs.Call.{lineVerdict, LineAnswered}
@@ -28,9 +28,9 @@ module _ (inner gap : Float) (ls : Lists) where
   marks = judged (leastMark (inputOf inner gap ls))
 
   -- where checks 1 to 5 pass
-  pub checked-of : (targets : List Float) → then (shapeOf ls (length targets)) marks ≡ Passed → LineChecked inner gap ls targets
+  pub checked-of : (targets : List Float) → then (flexShape ls (length targets)) marks ≡ Passed → LineChecked inner gap ls targets
   checked-of targets h =
-      let p = then-passed (shapeOf ls (length targets)) marks h in
+      let p = then-passed (flexShape ls (length targets)) marks h in
       let e = even-of ls (length targets) (p .0) in
       record {
         even = e .0;
@@ -38,13 +38,13 @@ module _ (inner gap : Float) (ls : Lists) where
         sound = accepted (inputOf inner gap ls) Passed (sym (judged-checked (inputOf inner gap ls) (e .0 .few) Passed) ∙ ap (λ (v : Verdict). then v Passed) (p .1)) .0;
       }
 
-  pub refused-so : (room : ℕ) (why : Refusal) → then (shapeOf ls room) marks ≡ verdict.Refused why → lineVerdict inner gap ls room ≡ verdict.Refused why
+  pub refused-so : (room : ℕ) (why : Refusal) → then (flexShape ls room) marks ≡ verdict.Refused why → lineVerdict inner gap ls room ≡ verdict.Refused why
   unfolding lineVerdict
-  refused-so room why h = refused-then (shapeOf ls room) (inputOf inner gap ls) (summed (outerSum (cleaned gap) (itemsOf ls))) why (λ e. even-of ls room e .0 .few) h
+  refused-so room why h = refused-then (flexShape ls room) (inputOf inner gap ls) (summed (outerSum (cleaned gap) (itemsOf ls))) why (λ e. even-of ls room e .0 .few) h
 
-  pub passed-so : (room : ℕ) → then (shapeOf ls room) marks ≡ Passed → lineVerdict inner gap ls room ≡ summed (outerSum (cleaned gap) (itemsOf ls))
+  pub passed-so : (room : ℕ) → then (flexShape ls room) marks ≡ Passed → lineVerdict inner gap ls room ≡ summed (outerSum (cleaned gap) (itemsOf ls))
   unfolding lineVerdict
-  passed-so room h = passed-then (shapeOf ls room) (inputOf inner gap ls) (summed (outerSum (cleaned gap) (itemsOf ls))) (λ e. even-of ls room e .0 .few) h
+  passed-so room h = passed-then (flexShape ls room) (inputOf inner gap ls) (summed (outerSum (cleaned gap) (itemsOf ls))) (λ e. even-of ls room e .0 .few) h
 
 -- ---- the answer
 

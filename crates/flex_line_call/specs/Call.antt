@@ -14,7 +14,7 @@ use Rattle.checks.specs.declared.Verdict.the-variants as verdict
 use Rattle.flex.specs.declared.Item.{Item}
 use Rattle.flex.specs.Flex.{outerSum, Flexed}
 use Rattle.flex.specs.Items.{Lists, itemsOf}
-use Rattle.flex_checks.specs.Input.{shapeOf, inputOf}
+use Rattle.flex_checks.specs.Input.{flexShape, inputOf}
 use Rattle.flex_line_call.specs.declared.FlexAnswer.{FlexAnswer}
 use Rattle.flex_line_call.specs.declared.FlexAnswer.the-variants.{Done, Refused}
 
@@ -22,7 +22,7 @@ use Rattle.flex_line_call.specs.declared.FlexAnswer.the-variants.{Done, 
 
 unfoldable pub lineVerdict : Float → Float → Lists → ℕ → Verdict
 lineVerdict inner gap ls room =
-    then (shapeOf ls room) (checked (inputOf inner gap ls) (summed (outerSum (cleaned gap) (itemsOf ls))))
+    then (flexShape ls room) (checked (inputOf inner gap ls) (summed (outerSum (cleaned gap) (itemsOf ls))))
 
 -- ---- the answer: a refusal changes no cell; where the checks passed, the line is flexed
 

@@ -31,7 +31,7 @@ use Rattle.flex.specs.Flex.{Cell, after, round, begun, startCell, grows, lineOf
 use Rattle.flex.specs.Items.{Lists, count, itemAt, itemsOf}
 use Rattle.lists.proofs.Each.{length-each}
 use Rattle.flex_line_call.specs.declared.FlexAnswer.the-variants.{Done}
-use Rattle.flex_checks.specs.Input.{shapeOf, plainAt, inputOf}
+use Rattle.flex_checks.specs.Input.{flexShape, plainAt, inputOf}
 use Rattle.flex_line_call.specs.Call.{lineVerdict, FlexedLine}
 use Rattle.flex_checks.proofs.Accept.{even-of}
 use Rattle.flex_reach.specs.Reach.{IsSize, IsMargin, IsFactor, IsItem, IsLine, Each, HandedOn}
@@ -158,7 +158,7 @@ module _ (inner gap : Float) (ls : Lists) (grow : Singles (ls .grow) (count ls))
   pub line-is : (room : ℕ) → lineVerdict inner gap ls room ≡ Passed → IsLine (cleaned inner) (cleaned gap) (itemsOf ls)
   unfolding lineVerdict
   line-is room e =
-      let p = then-passed (shapeOf ls room) (checked (inputOf inner gap ls) (summed (outerSum (cleaned gap) (itemsOf ls)))) e in
+      let p = then-passed (flexShape ls room) (checked (inputOf inner gap ls) (summed (outerSum (cleaned gap) (itemsOf ls)))) e in
       let q = accepted (inputOf inner gap ls) (summed (outerSum (cleaned gap) (itemsOf ls))) (p .1) in
       record {
         inner-is = size-read (q .0 .container .0);

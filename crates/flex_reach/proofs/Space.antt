@@ -11,7 +11,7 @@ use lib.Ieee.{Float, binary32, add, sub, neg}
 use Rattle.flex.proofs.Falls.{all-map}
 use Rattle.flex.specs.declared.Item.{Item}
 use Rattle.grid.specs.Floats.{nought, _⊕_, _⊖_}
-use Rattle.flex.specs.Flex.{Cell, taken, total}
+use Rattle.flex.specs.Flex.{Cell, outerNow, total}
 use Rattle.flex.proofs.Signs.{All}
 use Rattle.flex_reach.proofs.Units.{px, Num, far, neg-num}
 use Rattle.flex_reach.proofs.Plus.{Sum, sum-num, sum-near, sum-under}
@@ -81,28 +81,28 @@ lies m n x y p q h k l lm ln =
 pub margin-lies : {it : Item} → Fine it → Lies (262145 * px) (it .start) (it .end) (margin it)
 margin-lies {it} f = lies 131072 131072 (it .start) (it .end) (f .start) (f .end) (f .start-small) (f .end-small) (lit≤ tt) (lit≤ tt) (lit≤ tt)
 
-taken-lies : {g : Bool} {c : Cell} → Sound g c → Lies (524290 * px) (held c) (margin (c .item)) (taken c)
+taken-lies : {g : Bool} {c : Cell} → Sound g c → Lies (524290 * px) (held c) (margin (c .item)) (outerNow c)
 taken-lies {g} {c} s = lies 262144 262145 (held c) (margin (c .item)) (s .size .num) (margin-lies (s .item) .num) (upto-sides (s .size)) (margin-lies (s .item) .most) (lit≤ tt) (lit≤ tt) (lit≤ tt)
 
 -- ---- the sum over a line
 
-taken-f : (g : Bool) (l : List Cell) → All (Sound g) l → count (λ c. far false (taken c)) l + count (λ c. far true (held c)) l + count (λ c. far true (margin (c .item))) l
-    ≤ count (λ c. far true (taken c)) l + count (λ c. far false (held c)) l + count (λ c. far false (margin (c .item))) l + count (λ c. px) l
+taken-f : (g : Bool) (l : List Cell) → All (Sound g) l → count (λ c. far false (outerNow c)) l + count (λ c. far true (held c)) l + count (λ c. far true (margin (c .item))) l
+    ≤ count (λ c. far true (outerNow c)) l + count (λ c. far false (held c)) l + count (λ c. far false (margin (c .item))) l + count (λ c. px) l
 unfolding count
 taken-f g [] h = lit≤ tt
-taken-f g (c ∷ l) h = add (far false (taken c)) (far true (held c)) (far true (margin (c .item))) (far true (taken c)) (far false (held c)) (far false (margin (c .item))) px
-    (count (λ c. far false (taken c)) l) (count (λ c. far true (held c)) l) (count (λ c. far true (margin (c .item))) l) (count (λ c. far true (taken c)) l) (count (λ c. far false (held c)) l) (count (λ c. far false (margin (c .item))) l) (count (λ c. px) l)
+taken-f g (c ∷ l) h = add (far false (outerNow c)) (far true (held c)) (far true (margin (c .item))) (far true (outerNow c)) (far false (held c)) (far false (margin (c .item))) px
+    (count (λ c. far false (outerNow c)) l) (count (λ c. far true (held c)) l) (count (λ c. far true (margin (c .item))) l) (count (λ c. far true (outerNow c)) l) (count (λ c. far false (held c)) l) (count (λ c. far false (margin (c .item))) l) (count (λ c. px) l)
     (taken-lies (h .0) .near-f) (taken-f g l (h .1))
   where
     add : (a b c d e f p A B C D E F P : ℕ) → a + b + c ≤ d + e + f + p → A + B + C ≤ D + E + F + P → a + A + (b + B) + (c + C) ≤ d + D + (e + E) + (f + F) + (p + P)
     add a b c d e f p A B C D E F P h k = omega arith
 
-taken-t : (g : Bool) (l : List Cell) → All (Sound g) l → count (λ c. far true (taken c)) l + count (λ c. far false (held c)) l + count (λ c. far false (margin (c .item))) l
-    ≤ count (λ c. far false (taken c)) l + count (λ c. far true (held c)) l + count (λ c. far true (margin (c .item))) l + count (λ c. px) l
+taken-t : (g : Bool) (l : List Cell) → All (Sound g) l → count (λ c. far true (outerNow c)) l + count (λ c. far false (held c)) l + count (λ c. far false (margin (c .item))) l
+    ≤ count (λ c. far false (outerNow c)) l + count (λ c. far true (held c)) l + count (λ c. far true (margin (c .item))) l + count (λ c. px) l
 unfolding count
 taken-t g [] h = lit≤ tt
-taken-t g (c ∷ l) h = add (far true (taken c)) (far false (held c)) (far false (margin (c .item))) (far false (taken c)) (far true (held c)) (far true (margin (c .item))) px
-    (count (λ c. far true (taken c)) l) (count (λ c. far false (held c)) l) (count (λ c. far false (margin (c .item))) l) (count (λ c. far false (taken c)) l) (count (λ c. far true (held c)) l) (count (λ c. far true (margin (c .item))) l) (count (λ c. px) l)
+taken-t g (c ∷ l) h = add (far true (outerNow c)) (far false (held c)) (far false (margin (c .item))) (far false (outerNow c)) (far true (held c)) (far true (margin (c .item))) px
+    (count (λ c. far true (outerNow c)) l) (count (λ c. far false (held c)) l) (count (λ c. far false (margin (c .item))) l) (count (λ c. far false (outerNow c)) l) (count (λ c. far true (held c)) l) (count (λ c. far true (margin (c .item))) l) (count (λ c. px) l)
     (taken-lies (h .0) .near-t) (taken-t g l (h .1))
   where
     add : (a b c d e f p A B C D E F P : ℕ) → a + b + c ≤ d + e + f + p → A + B + C ≤ D + E + F + P → a + A + (b + B) + (c + C) ≤ d + D + (e + E) + (f + F) + (p + P)
@@ -127,17 +127,17 @@ abbrev pub sizes : List Cell → ℕ
 sizes cells = count (λ c. far false (held c)) cells
 
 pub room : (g : Bool) (inner gaps : Float) (cells : List Cell) → Upto (262144 * px) inner → Upto (262145 * px) gaps → All (Sound g) cells → length cells ≤ 1024
-    → Room (haves inner cells) (useds gaps cells) (sizes cells) (inner ⊖ (gaps ⊕ total taken cells))
+    → Room (haves inner cells) (useds gaps cells) (sizes cells) (inner ⊖ (gaps ⊕ total outerNow cells))
 unfolding sub
 room g inner gaps cells I G ok n =
-    let z : Float = total taken cells in
+    let z : Float = total outerNow cells in
     let big : 33554432 * (64 * px) ≤ 2 ^ 248 = under 2147483648 (lit≤ tt) (le-of-eq (re px)) in
-    let most : (h : Bool) → count (λ c. far h (taken c)) cells ≤ 1024 * (524290 * px) = λ h. count-most (λ c. far h (taken c)) (524290 * px) 1024 cells (all-map (λ c s. taken-lies s .most h) cells ok) n in
+    let most : (h : Bool) → count (λ c. far h (outerNow c)) cells ≤ 1024 * (524290 * px) = λ h. count-most (λ c. far h (outerNow c)) (524290 * px) 1024 cells (all-map (λ c s. taken-lies s .most h) cells ok) n in
     let ms : count (λ c. 64 * px) cells ≤ 1024 * (64 * px) = le-trans (le-of-eq (count-long (64 * px) cells)) (mul-le-mul-right (64 * px) n) in
     let ps : count (λ c. px) cells ≤ 1024 * px = le-trans (le-of-eq (count-long px cells)) (mul-le-mul-right px n) in
-    let N : Near (64 * px) big taken nought cells z = total-near (64 * px) big taken nought cells (nought-num .0) (all-map (λ c s. taken-lies s .num) cells ok)
-    (λ h. fits (far h nought) (count (λ c. far h (taken c)) cells) (count (λ c. 64 * px) cells) px (nought-num .1 h) (most h) ms) in
-    let zm : (h : Bool) → far h z ≤ 537000000 * px = λ h. small (far h z) (far h nought) (count (λ c. far h (taken c)) cells) (count (λ c. 64 * px) cells) px (total-under (64 * px) big taken nought cells z N h) (nought-num .1 h) (most h) ms in
+    let N : Near (64 * px) big outerNow nought cells z = total-near (64 * px) big outerNow nought cells (nought-num .0) (all-map (λ c s. taken-lies s .num) cells ok)
+    (λ h. fits (far h nought) (count (λ c. far h (outerNow c)) cells) (count (λ c. 64 * px) cells) px (nought-num .1 h) (most h) ms) in
+    let zm : (h : Bool) → far h z ≤ 537000000 * px = λ h. small (far h z) (far h nought) (count (λ c. far h (outerNow c)) cells) (count (λ c. 64 * px) cells) px (total-under (64 * px) big outerNow nought cells z N h) (nought-num .1 h) (most h) ms in
     let Y : Sum gaps z (gaps ⊕ z) = sum-num (G .num) (N .num) (under 262145 (lit≤ tt) (whole-of G)) (under 1074000000 (lit≤ tt) (both-sides 537000000 1074000000 z zm refl)) in
     let yb : (h : Bool) → far h gaps + far h z ≤ 16777216 * (64 * px) = λ h. fit-y (far h gaps) (far h z) px (upto-sides G h) (zm h) in
     let ym : (h : Bool) → far h (gaps ⊕ z) ≤ 538000000 * px = λ h. most-y (far h (gaps ⊕ z)) (far h gaps) (far h z) px (sum-under Y (64 * px) yb h) (upto-sides G h) (zm h) in
@@ -151,10 +151,10 @@ room g inner gaps cells I G ok n =
       num = R .num;
       most = λ h. most-r (far h r) (far h inner) (far h (neg (gaps ⊕ z))) px (sum-under R (64 * px) rb h) (upto-sides I h) (le-trans (le-of-eq (e .1 h)) (ym (not h)));
       least = chain (far true r) (far false r) (far true inner) (far false inner) (far true (neg (gaps ⊕ z))) (far false (neg (gaps ⊕ z))) (far true (gaps ⊕ z)) (far false (gaps ⊕ z)) (far true gaps) (far false gaps) (far true z) (far false z) (far true nought) (far false nought)
-          (count (λ c. far true (taken c)) cells) (count (λ c. far false (taken c)) cells) (count (λ c. far true (held c)) cells) (count (λ c. far false (held c)) cells) (count (λ c. far true (margin (c .item))) cells) (count (λ c. far false (margin (c .item))) cells) (count (λ c. 64 * px) cells) (count (λ c. px) cells) px
+          (count (λ c. far true (outerNow c)) cells) (count (λ c. far false (outerNow c)) cells) (count (λ c. far true (held c)) cells) (count (λ c. far false (held c)) cells) (count (λ c. far true (margin (c .item))) cells) (count (λ c. far false (margin (c .item))) cells) (count (λ c. 64 * px) cells) (count (λ c. px) cells) px
           (sum-near R (64 * px) rb true) (e .1 true) (e .1 false) (sum-near Y (64 * px) yb false) (N .near false) (taken-f g cells ok) (I .above) (G .above) none (nought-num .1 true) (nought-num .1 false) ms ps;
       largest = back (far true r) (far false r) (far true inner) (far false inner) (far true (neg (gaps ⊕ z))) (far false (neg (gaps ⊕ z))) (far true (gaps ⊕ z)) (far false (gaps ⊕ z)) (far true gaps) (far false gaps) (far true z) (far false z) (far true nought) (far false nought)
-          (count (λ c. far true (taken c)) cells) (count (λ c. far false (taken c)) cells) (count (λ c. far true (held c)) cells) (count (λ c. far false (held c)) cells) (count (λ c. far true (margin (c .item))) cells) (count (λ c. far false (margin (c .item))) cells) (count (λ c. 64 * px) cells) (count (λ c. px) cells) px
+          (count (λ c. far true (outerNow c)) cells) (count (λ c. far false (outerNow c)) cells) (count (λ c. far true (held c)) cells) (count (λ c. far false (held c)) cells) (count (λ c. far true (margin (c .item))) cells) (count (λ c. far false (margin (c .item))) cells) (count (λ c. 64 * px) cells) (count (λ c. px) cells) px
           (sum-near R (64 * px) rb false) (e .1 true) (e .1 false) (sum-near Y (64 * px) yb true) (N .near true) (taken-t g cells ok) (I .above) (G .above) none (nought-num .1 true) (nought-num .1 false) ms ps;
     }
   where

@@ -13,7 +13,7 @@ use Rattle.checks.specs.declared.Kind.the-variants.{Length}
 use Rattle.checks.proofs.Checks.{least-append}
 use Rattle.checks.proofs.Marked.{items-append}
 use Rattle.flex_checks.specs.Input.{inputOf}
-use Rattle.place_size.specs.CrossSize.{Items}
+use Rattle.place_size.specs.CrossSize.{CrossLists}
 use Rattle.place_cross.specs.Parts.{SameLengths}
 use Rattle.place_checks.specs.Numbers.{crossNumbers, acrossNumbersAt}
 use Rattle.pass_container.specs.declared.Container.{Container}
@@ -32,15 +32,15 @@ container-marks c p q e1 f1 f2 e2 f3 e3 f4 e4 f5 =
 
 -- ---- the items' on the cross axis
 
-abbrev pub acrossMarks : Items → List ℕ → List ℕ → ℕ → ℕ
+abbrev pub acrossMarks : CrossLists → List ℕ → List ℕ → ℕ → ℕ
 acrossMarks ls alignment auto-size n = leastUpTo (λ i. leastOf (acrossNumbersAt ls alignment auto-size i) (i + 1)) n
 
-pub lengths-as : {ls ls' : Items} {a a' s s' : List ℕ} → ls ≡ ls' → a ≡ a' → s ≡ s' → SameLengths ls' a' s' → SameLengths ls a s
-lengths-as {ls} {ls'} {a} {a'} {s} {s'} p q r h = subst (λ (l : Items). SameLengths l a s) (sym p) (subst (λ (y : List ℕ). SameLengths ls' y s) (sym q) (subst (λ (y : List ℕ). SameLengths ls' a' y) (sym r) h))
+pub lengths-as : {ls ls' : CrossLists} {a a' s s' : List ℕ} → ls ≡ ls' → a ≡ a' → s ≡ s' → SameLengths ls' a' s' → SameLengths ls a s
+lengths-as {ls} {ls'} {a} {a'} {s} {s'} p q r h = subst (λ (l : CrossLists). SameLengths l a s) (sym p) (subst (λ (y : List ℕ). SameLengths ls' y s) (sym q) (subst (λ (y : List ℕ). SameLengths ls' a' y) (sym r) h))
 
-pub across-as : {ls ls' : Items} {a a' s s' : List ℕ} {k k' m : ℕ} → ls ≡ ls' → a ≡ a' → s ≡ s' → k ≡ k' → m ≡ acrossMarks ls a s k → m ≡ acrossMarks ls' a' s' k'
+pub across-as : {ls ls' : CrossLists} {a a' s s' : List ℕ} {k k' m : ℕ} → ls ≡ ls' → a ≡ a' → s ≡ s' → k ≡ k' → m ≡ acrossMarks ls a s k → m ≡ acrossMarks ls' a' s' k'
 across-as {ls} {ls'} {a} {a'} {s} {s'} {k} {k'} p q r t e =
-    e ∙ ap (λ (l : Items). acrossMarks l a s k) p ∙ ap (λ (y : List ℕ). acrossMarks ls' y s k) q ∙ ap (λ (y : List ℕ). acrossMarks ls' a' y k) r ∙ ap (acrossMarks ls' a' s') t
+    e ∙ ap (λ (l : CrossLists). acrossMarks l a s k) p ∙ ap (λ (y : List ℕ). acrossMarks ls' y s k) q ∙ ap (λ (y : List ℕ). acrossMarks ls' a' y k) r ∙ ap (acrossMarks ls' a' s') t
 
 -- ---- the whole input's
 

@@ -8,7 +8,7 @@ use lib.ListN.{length}
 use lib.Ieee.{Float}
 use Rattle.flex.specs.Items.{lists}
 use Rattle.flex.specs.Accepted.{Even}
-use Rattle.place_size.specs.CrossSize.{items}
+use Rattle.place_size.specs.CrossSize.{crossLists}
 use Rattle.place_cross.specs.Parts.{SameLengths}
 use Rattle.pass_container.specs.Columns.{column, mainLists, crossItems, alignSelf, autoSize}
 use Rattle.pass_container.specs.Stages.{Inside, ItemLists}
@@ -75,5 +75,5 @@ module _ {n : ℕ} {x : List Float} {c : List ℕ} (t : ItemLists n x c) where
 pub lists-are : {b l h e g s x y b' l' h' e' g' s' x' y' : List Float} {k u v k' u' v' : List ℕ} → b ≡ b' → l ≡ l' → h ≡ h' → k ≡ k' → e ≡ e' → g ≡ g' → s ≡ s' → x ≡ x' → y ≡ y' → u ≡ u' → v ≡ v' → lists b l h k e g s x y u v ≡ lists b' l' h' k' e' g' s' x' y' u' v'
 lists-are p1 p2 p3 p4 p5 p6 p7 p8 p9 p10 p11 = cc
 
-pub items-are : {m l h e s t m' l' h' e' s' t' : List Float} {k p q k' p' q' : List ℕ} → m ≡ m' → l ≡ l' → h ≡ h' → k ≡ k' → e ≡ e' → s ≡ s' → t ≡ t' → p ≡ p' → q ≡ q' → items m l h k e s t p q ≡ items m' l' h' k' e' s' t' p' q'
+pub items-are : {m l h e s t m' l' h' e' s' t' : List Float} {k p q k' p' q' : List ℕ} → m ≡ m' → l ≡ l' → h ≡ h' → k ≡ k' → e ≡ e' → s ≡ s' → t ≡ t' → p ≡ p' → q ≡ q' → crossLists m l h k e s t p q ≡ crossLists m' l' h' k' e' s' t' p' q'
 items-are p1 p2 p3 p4 p5 p6 p7 p8 p9 = cc

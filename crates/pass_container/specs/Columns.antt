@@ -6,7 +6,7 @@ use lib.Ieee.{Float}
 use Rattle.flex.specs.Items.{Lists, lists}
 use Rattle.grid.specs.Floats.{nought}
 use Rattle.place_main.specs.MainAxis.{LineLists, lineLists}
-use Rattle.place_size.specs.CrossSize.{Items, items}
+use Rattle.place_size.specs.CrossSize.{CrossLists, crossLists}
 
 -- list k of those lists
 unfoldable pub column : {A : Type 0} → ℕ → ℕ → List A → List A
@@ -31,8 +31,9 @@ mainItems n x c targets = lineLists targets (column n 6 x) (column n 7 x) (colum
 
 -- the cross axis: measured size, minimum, maximum (with the code that there is one), edges, start and end margin (with
 -- the codes of auto ones)
-abbrev pub crossItems : ℕ → List Float → List ℕ → Items
-crossItems n x c = items (column n 8 x) (column n 9 x) (column n 10 x) (column n 3 c) (column n 11 x) (column n 12 x)
+abbrev pub crossItems : ℕ → List Float → List ℕ → CrossLists
+crossItems n x c =
+    crossLists (column n 8 x) (column n 9 x) (column n 10 x) (column n 3 c) (column n 11 x) (column n 12 x)
     (column n 13 x) (column n 4 c) (column n 5 c)
 
 -- and the codes of `align-self` and of an auto cross size

@@ -14,7 +14,7 @@ use Rattle.keywords.specs.declared.ContentAlignment.{ContentAlignment}
 use Rattle.lists.specs.Cells.{each}
 use Rattle.grid.specs.Floats.{nought}
 use Rattle.place_size.specs.declared.container.Cross.{Cross}
-use Rattle.place_size.specs.CrossSize.{Items, crossLineSize}
+use Rattle.place_size.specs.CrossSize.{CrossLists, crossLineSize}
 use Rattle.place_cross.specs.Lines.{Aligned}
 use Rattle.pass_walk.specs.Sizes.{crossLine, crossSizes}
 use Rattle.pass_walk.specs.SizeParts.{SizesReady}
@@ -38,8 +38,8 @@ module _ {n : ℕ} {x : List Float} {codes counts : List ℕ} (r : CrossReady n 
     room = le-trans {m = n} (r .few) h;
   }
 
-  pub sizes-ready-as : {ls : Items} (sizes : List Float) → ls ≡ crossItems n x codes → n ≤ length sizes → SizesReady counts ls sizes
-  sizes-ready-as sizes e h = subst (λ (l : Items). SizesReady counts l sizes) (sym e) (sizes-ready sizes h)
+  pub sizes-ready-as : {ls : CrossLists} (sizes : List Float) → ls ≡ crossItems n x codes → n ≤ length sizes → SizesReady counts ls sizes
+  sizes-ready-as sizes e h = subst (λ (l : CrossLists). SizesReady counts l sizes) (sym e) (sizes-ready sizes h)
 
   across-ready : (lines sizes starts ends offsets : List Float) → n ≤ length lines → n ≤ length sizes → n ≤ length starts → n ≤ length ends → n ≤ length offsets → AcrossReady counts lines (crossItems n x codes) (alignSelf n codes) (autoSize n codes) sizes starts ends offsets
   across-ready lines sizes starts ends offsets h a b d e =
@@ -51,27 +51,27 @@ module _ {n : ℕ} {x : List Float} {codes counts : List ℕ} (r : CrossReady n 
         room = record { sizes-room = le-trans {m = n} (le-of-eq l) a; starts-room = le-trans {m = n} (le-of-eq l) b; ends-room = le-trans {m = n} (le-of-eq l) d; offsets-room = le-trans {m = n} (le-of-eq l) e };
       }
 
-  pub across-ready-as : {ls : Items} {al au : List ℕ} (lines sizes starts ends offsets : List Float) → ls ≡ crossItems n x codes → al ≡ alignSelf n codes → au ≡ autoSize n codes
+  pub across-ready-as : {ls : CrossLists} {al au : List ℕ} (lines sizes starts ends offsets : List Float) → ls ≡ crossItems n x codes → al ≡ alignSelf n codes → au ≡ autoSize n codes
       → n ≤ length lines → n ≤ length sizes → n ≤ length starts → n ≤ length ends → n ≤ length offsets → AcrossReady counts lines ls al au sizes starts ends offsets
   across-ready-as {ls} {al} {au} lines sizes starts ends offsets p q t h a b d e =
-      subst (λ (l : Items). AcrossReady counts lines l al au sizes starts ends offsets) (sym p)
+      subst (λ (l : CrossLists). AcrossReady counts lines l al au sizes starts ends offsets) (sym p)
       (subst (λ (l : List ℕ). AcrossReady counts lines (crossItems n x codes) l au sizes starts ends offsets) (sym q)
       (subst (λ (l : List ℕ). AcrossReady counts lines (crossItems n x codes) (alignSelf n codes) l sizes starts ends offsets) (sym t) (across-ready lines sizes starts ends offsets h a b d e)))
 
 -- ---- the same of what was asked with
 
-pub sizes-as : {c d : Cross} {ls ms : Items} (counts : List ℕ) (old : List Float) {new : List Float} → c ≡ d → ls ≡ ms → new ≡ crossSizes c counts ls old → new ≡ crossSizes d counts ms old
-sizes-as {c} {d} {ls} {ms} counts old p q e = e ∙ ap (λ (y : Cross). crossSizes y counts ls old) p ∙ ap (λ (l : Items). crossSizes d counts l old) q
+pub sizes-as : {c d : Cross} {ls ms : CrossLists} (counts : List ℕ) (old : List Float) {new : List Float} → c ≡ d → ls ≡ ms → new ≡ crossSizes c counts ls old → new ≡ crossSizes d counts ms old
+sizes-as {c} {d} {ls} {ms} counts old p q e = e ∙ ap (λ (y : Cross). crossSizes y counts ls old) p ∙ ap (λ (l : CrossLists). crossSizes d counts l old) q
 
 pub aligned-as : {c d : Cross} {a b : ContentAlignment} {l m s o s' o' : List Float} {r : Float} → c ≡ d → a ≡ b → l ≡ m → Aligned c a l s o r s' o' → Aligned d b m s o r s' o'
 aligned-as {c} {d} {a} {b} {l} {m} {s} {o} {s'} {o'} {r} p q t h =
     subst (λ (y : List Float). Aligned d b y s o r s' o') t (subst (λ (y : ContentAlignment). Aligned d y l s o r s' o') q (subst (λ (y : Cross). Aligned y a l s o r s' o') p h))
 
-pub across-as : {b d : Bool} {counts : List ℕ} {lines : List Float} {ls ms : Items} {al al' au au' : List ℕ} {s t e o s' t' e' o' : List Float} → b ≡ d → ls ≡ ms → al ≡ al' → au ≡ au' → AcrossLines b counts lines ls al au s t e o s' t' e' o' → AcrossLines d counts lines ms al' au' s t e o s' t' e' o'
+pub across-as : {b d : Bool} {counts : List ℕ} {lines : List Float} {ls ms : CrossLists} {al al' au au' : List ℕ} {s t e o s' t' e' o' : List Float} → b ≡ d → ls ≡ ms → al ≡ al' → au ≡ au' → AcrossLines b counts lines ls al au s t e o s' t' e' o' → AcrossLines d counts lines ms al' au' s t e o s' t' e' o'
 across-as {b} {d} {counts} {lines} {ls} {ms} {al} {al'} {au} {au'} {s} {t} {e} {o} {s'} {t'} {e'} {o'} p q u v h =
     subst (λ (y : List ℕ). AcrossLines d counts lines ms al' y s t e o s' t' e' o') v
     (subst (λ (y : List ℕ). AcrossLines d counts lines ms y au s t e o s' t' e' o') u
-    (subst (λ (y : Items). AcrossLines d counts lines y al au s t e o s' t' e' o') q
+    (subst (λ (y : CrossLists). AcrossLines d counts lines y al au s t e o s' t' e' o') q
     (subst (λ (y : Bool). AcrossLines y counts lines ls al au s t e o s' t' e' o') p h)))
 
 -- ---- the front of a list of the frame
@@ -89,7 +89,7 @@ fronts (suc n) zero h = absurd (omega arith)
 fronts (suc n) (suc m) h = ap (λ (l : List Float). nought ∷ l) (fronts n m (omega arith))
 
 -- the list of the lines' sizes, as long as there are lines
-pub asked-are : (c : Cross) (counts : List ℕ) (ls : Items) (old : List Float) → take (length counts) (crossSizes c counts ls old) ≡ crossSizes c counts ls []
+pub asked-are : (c : Cross) (counts : List ℕ) (ls : CrossLists) (old : List Float) → take (length counts) (crossSizes c counts ls old) ≡ crossSizes c counts ls []
 asked-are c counts ls old = sizes-front c counts ls old ∙ sym (nil (each (length counts) (λ j. crossLineSize c (crossLine counts j ls))) (length counts))
   where
     none : List Float

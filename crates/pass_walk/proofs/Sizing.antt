@@ -10,7 +10,7 @@ use borrow.Rule.Slice.PartMut.{midOf, mid-len}
 use Rattle.lists.specs.ByLine.{lineStart}
 use Rattle.place_size.specs.declared.container.Cross.{Cross}
 use Rattle.lists.specs.Cells.{each, overwritten}
-use Rattle.place_size.specs.CrossSize.{Items, items, count, crossLineSize}
+use Rattle.place_size.specs.CrossSize.{CrossLists, crossLists, count, crossLineSize}
 use Rattle.place_size.specs.Parts.{CrossOneLength}
 use Rattle.lists.proofs.Each.{length-each, each-at, written-none, written-turn, written-length, written-all}
 use Rattle.pass_walk.specs.Sizes.{crossLine, crossSizes}
@@ -20,17 +20,17 @@ use Rattle.lists.proofs.Walk.{Here, start-none, start-next, ends-within, lent-i
 -- ---- one line
 
 -- what the walk lends of the items
-abbrev pub lentItems : ℕ → ℕ → Items → Items
-lentItems from to ls = items (midOf from (to - from) (ls .measured)) (midOf from (to - from) (ls .minimum)) (midOf from (to - from) (ls .maximum)) (midOf from (to - from) (ls .capped)) (midOf from (to - from) (ls .edges)) (midOf from (to - from) (ls .start)) (midOf from (to - from) (ls .end)) (midOf from (to - from) (ls .auto-start)) (midOf from (to - from) (ls .auto-end))
+abbrev pub lentItems : ℕ → ℕ → CrossLists → CrossLists
+lentItems from to ls = crossLists (midOf from (to - from) (ls .measured)) (midOf from (to - from) (ls .minimum)) (midOf from (to - from) (ls .maximum)) (midOf from (to - from) (ls .capped)) (midOf from (to - from) (ls .edges)) (midOf from (to - from) (ls .start)) (midOf from (to - from) (ls .end)) (midOf from (to - from) (ls .auto-start)) (midOf from (to - from) (ls .auto-end))
 
-pub same-items : {m m' l l' h h' e e' s s' t t' : List Float} {k k' p p' q q' : List ℕ} → m ≡ m' → l ≡ l' → h ≡ h' → k ≡ k' → e ≡ e' → s ≡ s' → t ≡ t' → p ≡ p' → q ≡ q' → items m l h k e s t p q ≡ items m' l' h' k' e' s' t' p' q'
+pub same-items : {m m' l l' h h' e e' s s' t t' : List Float} {k k' p p' q q' : List ℕ} → m ≡ m' → l ≡ l' → h ≡ h' → k ≡ k' → e ≡ e' → s ≡ s' → t ≡ t' → p ≡ p' → q ≡ q' → crossLists m l h k e s t p q ≡ crossLists m' l' h' k' e' s' t' p' q'
 same-items a b c d f g i j o = rw (a, b, c, d, f, g, i, j, o)
 
-pub lent-items : {counts : List ℕ} {from to j : ℕ} (ls : Items) → Here counts from to j → lentItems from to ls ≡ crossLine counts j ls
+pub lent-items : {counts : List ℕ} {from to j : ℕ} (ls : CrossLists) → Here counts from to j → lentItems from to ls ≡ crossLine counts j ls
 lent-items ls h = same-items (lent-is h (ls .measured)) (lent-is h (ls .minimum)) (lent-is h (ls .maximum)) (lent-is h (ls .capped)) (lent-is h (ls .edges)) (lent-is h (ls .start)) (lent-is h (ls .end)) (lent-is h (ls .auto-start)) (lent-is h (ls .auto-end))
 
 -- what a turn may use: the line's range lies inside every list
-pub record Inside (ls : Items) (from to : ℕ) : Type 0 where
+pub record Inside (ls : CrossLists) (from to : ℕ) : Type 0 where
   pub forward : from ≤ to
   pub few : to ≤ 1024
   pub in-measured : to ≤ length (ls .measured)
@@ -43,7 +43,7 @@ pub record Inside (ls : Items) (from to : ℕ) : Type 0 where
   pub in-auto-start : to ≤ length (ls .auto-start)
   pub in-auto-end : to ≤ length (ls .auto-end)
 
-pub inside-of : {ls : Items} {from to : ℕ} → CrossOneLength ls → from ≤ to → to ≤ count ls → Inside ls from to
+pub inside-of : {ls : CrossLists} {from to : ℕ} → CrossOneLength ls → from ≤ to → to ≤ count ls → Inside ls from to
 inside-of e h k = record {
   forward = h;
   few = omega (arith, e .few);
@@ -59,7 +59,7 @@ inside-of e h k = record {
 }
 
 -- the stage's own requirement
-pub lent-even : {ls : Items} {from to : ℕ} → Inside ls from to → CrossOneLength (lentItems from to ls)
+pub lent-even : {ls : CrossLists} {from to : ℕ} → Inside ls from to → CrossOneLength (lentItems from to ls)
 lent-even {ls} {from} {to} t =
     let n = mid-len from to (ls .measured) (t .in-measured) in
     record {
@@ -77,12 +77,12 @@ lent-even {ls} {from} {to} t =
 -- ---- the walk
 
 -- the lines before line j have their sizes
-pub record Sizing (c : Cross) (counts : List ℕ) (ls : Items) (sizes₀ sizes : List Float) (from j : ℕ) : Type 0 where
+pub record Sizing (c : Cross) (counts : List ℕ) (ls : CrossLists) (sizes₀ sizes : List Float) (from j : ℕ) : Type 0 where
   pub here : from ≡ lineStart counts j
   pub inside : j ≤ length counts
   pub sizes-are : sizes ≡ overwritten j (λ i. crossLineSize c (crossLine counts i ls)) sizes₀
 
-module _ (c : Cross) (counts : List ℕ) (ls : Items) (sizes₀ : List Float) where
+module _ (c : Cross) (counts : List ℕ) (ls : CrossLists) (sizes₀ : List Float) where
   pub sizing-none : Sizing c counts ls sizes₀ sizes₀ 0 0
   sizing-none = record { here = start-none counts; inside = zero-le; sizes-are = written-none _ sizes₀ }
 
@@ -114,7 +114,7 @@ module _ (c : Cross) (counts : List ℕ) (ls : Items) (sizes₀ : List Float) wh
 
 -- ---- the list of sizes, and a line by itself
 
-module _ (c : Cross) (counts : List ℕ) (ls : Items) (sizes₀ : List Float) where
+module _ (c : Cross) (counts : List ℕ) (ls : CrossLists) (sizes₀ : List Float) where
   -- the sizes of the lines alone
   pub sizes-front : take (length counts) (crossSizes c counts ls sizes₀) ≡ each (length counts) (λ j. crossLineSize c (crossLine counts j ls))
   sizes-front = take-at (each (length counts) (λ j. crossLineSize c (crossLine counts j ls))) (drop (length counts) sizes₀) (length counts) (length-each (length counts) (λ j. crossLineSize c (crossLine counts j ls)))
@@ -123,6 +123,6 @@ module _ (c : Cross) (counts : List ℕ) (ls : Items) (sizes₀ : List Float) wh
   size-at d j h = each-at (length counts) (λ i. crossLineSize c (crossLine counts i ls)) (drop (length counts) sizes₀) d j h
 
 -- two walks in the same container that agree on the items of a line, and on nothing else, give it the same size
-pub sizes-independent : (c : Cross) (counts counts' : List ℕ) (ls ls' : Items) (sizes₀ sizes₀' : List Float) (d : Float) (j j' : ℕ) → j < length counts → j' < length counts' → crossLine counts j ls ≡ crossLine counts' j' ls'
+pub sizes-independent : (c : Cross) (counts counts' : List ℕ) (ls ls' : CrossLists) (sizes₀ sizes₀' : List Float) (d : Float) (j j' : ℕ) → j < length counts → j' < length counts' → crossLine counts j ls ≡ crossLine counts' j' ls'
     → getD (crossSizes c counts ls sizes₀) j d ≡ getD (crossSizes c counts' ls' sizes₀') j' d
 sizes-independent c counts counts' ls ls' sizes₀ sizes₀' d j j' h h' e = size-at c counts ls sizes₀ d j h ∙ ap (crossLineSize c) e ∙ sym (size-at c counts' ls' sizes₀' d j' h')

@@ -4,7 +4,7 @@ ghost use Rattle.place_main.specs.MainAxis.{lineLists};
 ghost use Rattle.pass_walk.specs.Main.{MainLines};
 ghost use Rattle.pass_walk.specs.MainParts.{MainReady};
 ghost use mathlib.Core.Path.{_≡_};
-ghost use Rattle.place_size.specs.CrossSize.{items};
+ghost use Rattle.place_size.specs.CrossSize.{crossLists};
 ghost use Rattle.pass_walk.specs.Sizes.{crossSizes};
 ghost use Rattle.pass_walk.specs.SizeParts.{SizesReady};
 use keywords::ContentAlignment;
@@ -74,10 +74,10 @@ pub fn cross_sizes<'a>(
     auto_end: &'a [u32],
     sizes: &mut [f32],
 )
-    requires { ⌜ SizesReady (now counts) (items (now measured) (now minimum) (now maximum) (now capped) (now edges)
+    requires { ⌜ SizesReady (now counts) (crossLists (now measured) (now minimum) (now maximum) (now capped) (now edges)
         (now start) (now end) (now «auto_start») (now «auto_end»)) (now sizes) ⌝ }
     ensures { λ _. ⌜ now (sizes .exit) ≡ crossSizes c (now (counts .entry))
-        (items (now (measured .entry)) (now (minimum .entry)) (now (maximum .entry)) (now (capped .entry))
+        (crossLists (now (measured .entry)) (now (minimum .entry)) (now (maximum .entry)) (now (capped .entry))
         (now (edges .entry)) (now (start .entry)) (now (end .entry)) (now («auto_start» .entry))
         (now («auto_end» .entry))) (now (sizes .entry)) ⌝ }
 {

@@ -10,7 +10,7 @@ use lib.Ieee.{Float, nan}
 use borrow.Author.Count.{below-none, below-more}
 use borrow.Rule.Slice.PartMut.{midOf, putMid, mid-len}
 use Rattle.lists.specs.ByLine.{lineStart, part, Division}
-use Rattle.place_size.specs.CrossSize.{Items, count}
+use Rattle.place_size.specs.CrossSize.{CrossLists, count}
 use Rattle.place_cross.specs.CrossAxis.{Across}
 use Rattle.place_cross.specs.Parts.{SameLengths, AcrossRoom}
 use Rattle.pass_walk.specs.Sizes.{crossLine}
@@ -22,7 +22,7 @@ use Rattle.pass_walk.proofs.Sizing.{lentItems, lent-items, Inside, inside-of, l
 -- ---- one line
 
 -- what a turn may use: the line's range lies inside every list
-pub record Turn (ls : Items) (alignment auto-size : List ℕ) (sizes starts ends offsets : List Float) (from to : ℕ) : Type 0 where
+pub record Turn (ls : CrossLists) (alignment auto-size : List ℕ) (sizes starts ends offsets : List Float) (from to : ℕ) : Type 0 where
   pub inside : Inside ls from to
   pub in-alignment : to ≤ length alignment
   pub in-auto-size : to ≤ length auto-size
@@ -32,7 +32,7 @@ pub record Turn (ls : Items) (alignment auto-size : List ℕ) (sizes starts ends
   pub in-offsets : to ≤ length offsets
 
 -- the stage's own requirements
-module _ {ls : Items} {alignment auto-size : List ℕ} {sizes starts ends offsets : List Float} {from to : ℕ} (t : Turn ls alignment auto-size sizes starts ends offsets from to) where
+module _ {ls : CrossLists} {alignment auto-size : List ℕ} {sizes starts ends offsets : List Float} {from to : ℕ} (t : Turn ls alignment auto-size sizes starts ends offsets from to) where
   pub lent-lengths : SameLengths (lentItems from to ls) (midOf from (to - from) alignment) (midOf from (to - from) auto-size)
   lent-lengths =
       let n = mid-len from to (ls .measured) (t .inside .in-measured) in
@@ -50,24 +50,24 @@ module _ {ls : Items} {alignment auto-size : List ℕ} {sizes starts ends offset
 
 module _ {reversed : Bool} where
   -- all cells of a line are written
-  fresh : {x : Float} {ls : Items} {a z : List ℕ} {u₀ s₀ e₀ o₀ u s e o : List Float} → length u₀ ≤ count ls → length s₀ ≤ count ls → length e₀ ≤ count ls → length o₀ ≤ count ls → Across x reversed ls a z u₀ s₀ e₀ o₀ u s e o → Across x reversed ls a z [] [] [] [] u s e o
+  fresh : {x : Float} {ls : CrossLists} {a z : List ℕ} {u₀ s₀ e₀ o₀ u s e o : List Float} → length u₀ ≤ count ls → length s₀ ≤ count ls → length e₀ ≤ count ls → length o₀ ≤ count ls → Across x reversed ls a z u₀ s₀ e₀ o₀ u s e o → Across x reversed ls a z [] [] [] [] u s e o
   fresh {u₀ = u₀} {s₀ = s₀} {e₀ = e₀} {o₀ = o₀} f g h i p = record { sizes-are = p .sizes-are ∙ all-cells _ u₀ f; starts-are = p .starts-are ∙ all-cells _ s₀ g; ends-are = p .ends-are ∙ all-cells _ e₀ h; offsets-are = p .offsets-are ∙ all-cells _ o₀ i }
 
-  moved : {x : Float} {ls : Items} {a z : List ℕ} {u u' s s' e e' o o' : List Float} → u ≡ u' → s ≡ s' → e ≡ e' → o ≡ o' → Across x reversed ls a z [] [] [] [] u s e o → Across x reversed ls a z [] [] [] [] u' s' e' o'
+  moved : {x : Float} {ls : CrossLists} {a z : List ℕ} {u u' s s' e e' o o' : List Float} → u ≡ u' → s ≡ s' → e ≡ e' → o ≡ o' → Across x reversed ls a z [] [] [] [] u s e o → Across x reversed ls a z [] [] [] [] u' s' e' o'
   moved f g h i p = record { sizes-are = sym f ∙ p .sizes-are; starts-are = sym g ∙ p .starts-are; ends-are = sym h ∙ p .ends-are; offsets-are = sym i ∙ p .offsets-are }
 
   -- by equals
-  same-input : {x x' : Float} {ls ls' : Items} {a a' z z' : List ℕ} {u₀ s₀ e₀ o₀ u s e o : List Float} → x ≡ x' → ls ≡ ls' → a ≡ a' → z ≡ z' → Across x reversed ls a z u₀ s₀ e₀ o₀ u s e o → Across x' reversed ls' a' z' u₀ s₀ e₀ o₀ u s e o
+  same-input : {x x' : Float} {ls ls' : CrossLists} {a a' z z' : List ℕ} {u₀ s₀ e₀ o₀ u s e o : List Float} → x ≡ x' → ls ≡ ls' → a ≡ a' → z ≡ z' → Across x reversed ls a z u₀ s₀ e₀ o₀ u s e o → Across x' reversed ls' a' z' u₀ s₀ e₀ o₀ u s e o
   same-input {x} {x'} {ls} {ls'} {a} {a'} {z} {z'} {u₀} {s₀} {e₀} {o₀} {u} {s} {e} {o} f g h i p =
       subst (λ (y : Float). Across y reversed ls' a' z' u₀ s₀ e₀ o₀ u s e o) f
-      (subst (λ (y : Items). Across x reversed y a' z' u₀ s₀ e₀ o₀ u s e o) g
+      (subst (λ (y : CrossLists). Across x reversed y a' z' u₀ s₀ e₀ o₀ u s e o) g
       (subst (λ (y : List ℕ). Across x reversed ls y z' u₀ s₀ e₀ o₀ u s e o) h
       (subst (λ (y : List ℕ). Across x reversed ls a y u₀ s₀ e₀ o₀ u s e o) i p)))
 
 -- ---- the walk
 
 -- the items of the lines before line j are placed, and from it on the lists are as they were
-pub record Placing (reversed : Bool) (counts : List ℕ) (lines : List Float) (ls : Items) (alignment auto-size : List ℕ) (sizes₀ starts₀ ends₀ offsets₀ sizes starts ends offsets : List Float) (from j : ℕ) : Type 0 where
+pub record Placing (reversed : Bool) (counts : List ℕ) (lines : List Float) (ls : CrossLists) (alignment auto-size : List ℕ) (sizes₀ starts₀ ends₀ offsets₀ sizes starts ends offsets : List Float) (from j : ℕ) : Type 0 where
   pub here : from ≡ lineStart counts j
   pub inside : j ≤ length counts
   pub across : (i : ℕ) → i < j → Across (getD lines i nan) reversed (crossLine counts i ls) (part counts i alignment) (part counts i auto-size) [] [] [] [] (part counts i sizes) (part counts i starts) (part counts i ends) (part counts i offsets)
@@ -76,7 +76,7 @@ pub record Placing (reversed : Bool) (counts : List ℕ) (lines : List Float) (l
   pub ends-front : Front counts ends₀ ends j
   pub offsets-front : Front counts offsets₀ offsets j
 
-module _ (reversed : Bool) (counts : List ℕ) (lines : List Float) (ls : Items) (alignment auto-size : List ℕ) (sizes₀ starts₀ ends₀ offsets₀ : List Float) where
+module _ (reversed : Bool) (counts : List ℕ) (lines : List Float) (ls : CrossLists) (alignment auto-size : List ℕ) (sizes₀ starts₀ ends₀ offsets₀ : List Float) where
   abbrev Line-across : List Float → List Float → List Float → List Float → ℕ → Type 0
   Line-across u s e o i = Across (getD lines i nan) reversed (crossLine counts i ls) (part counts i alignment) (part counts i auto-size) [] [] [] [] (part counts i u) (part counts i s) (part counts i e) (part counts i o)
 
@@ -166,7 +166,7 @@ pub record Same (u s e o u' s' e' o' : List Float) : Type 0 where
 
 module _ {reversed : Bool} where
   -- two walks, both reversed or neither, that agree on the size and the items of a line, and on nothing else, say the same of it
-  pub across-independent : {counts counts' : List ℕ} {lines lines' : List Float} {ls ls' : Items} {a z a' z' : List ℕ} {u₀ s₀ e₀ o₀ u s e o u₀' s₀' e₀' o₀' u' s' e' o' : List Float}
+  pub across-independent : {counts counts' : List ℕ} {lines lines' : List Float} {ls ls' : CrossLists} {a z a' z' : List ℕ} {u₀ s₀ e₀ o₀ u s e o u₀' s₀' e₀' o₀' u' s' e' o' : List Float}
       → AcrossLines reversed counts lines ls a z u₀ s₀ e₀ o₀ u s e o → AcrossLines reversed counts' lines' ls' a' z' u₀' s₀' e₀' o₀' u' s' e' o'
       → (j j' : ℕ) → j < length counts → j' < length counts' → getD lines j nan ≡ getD lines' j' nan → crossLine counts j ls ≡ crossLine counts' j' ls' → part counts j a ≡ part counts' j' a' → part counts j z ≡ part counts' j' z'
       → Same (part counts j u) (part counts j s) (part counts j e) (part counts j o) (part counts' j' u') (part counts' j' s') (part counts' j' e') (part counts' j' o')
@@ -176,7 +176,7 @@ module _ {reversed : Bool} where
       record { sizes-same = v .sizes-are ∙ sym (w .sizes-are); starts-same = v .starts-are ∙ sym (w .starts-are); ends-same = v .ends-are ∙ sym (w .ends-are); offsets-same = v .offsets-are ∙ sym (w .offsets-are) }
 
   -- any two results that the contract allows are equal
-  pub across-determined : (counts : List ℕ) (lines : List Float) (ls : Items) (a z : List ℕ) (u₀ s₀ e₀ o₀ : List Float) {u s e o u' s' e' o' : List Float} → Division counts (count ls)
+  pub across-determined : (counts : List ℕ) (lines : List Float) (ls : CrossLists) (a z : List ℕ) (u₀ s₀ e₀ o₀ : List Float) {u s e o u' s' e' o' : List Float} → Division counts (count ls)
       → AcrossLines reversed counts lines ls a z u₀ s₀ e₀ o₀ u s e o → AcrossLines reversed counts lines ls a z u₀ s₀ e₀ o₀ u' s' e' o' → Same u s e o u' s' e' o'
   across-determined counts lines ls a z u₀ s₀ e₀ o₀ {u} {s} {e} {o} {u'} {s'} {e'} {o'} d p q = record {
     sizes-same = same-parts counts u₀ u u' d (p .sizes-past) (q .sizes-past) (λ j h. across-independent p q j j h h refl refl refl refl .sizes-same);

@@ -16,14 +16,14 @@ use Rattle.checks.specs.Domain.{float, code, checked, then}
 use Rattle.checks.specs.Marks.{asAnswer, mark, leastOf, leastUpTo, judged}
 use Rattle.checks.specs.Shapes.{shapeOf}
 use Rattle.checks.proofs.Marked.{container-two, judged-is, shaped}
-use Rattle.place_size.specs.CrossSize.{Items, count}
+use Rattle.place_size.specs.CrossSize.{CrossLists, count}
 use Rattle.place_size.specs.Parts.{CrossOneLength}
 use Rattle.place_cross.specs.CrossAxis.{Across}
 use Rattle.place_cross.specs.Parts.{SameLengths, AcrossRoom}
 use Rattle.place_checks.specs.Numbers.{acrossNumbersAt}
 use Rattle.place_across_call.specs.AcrossCall.{acrossInput, lengths, acrossVerdict, AcrossResult, result, acrossInto, acrossCall}
 
-module _ (line : Float) (reversed : ℕ) (ls : Items) (alignment auto-size : List ℕ) where
+module _ (line : Float) (reversed : ℕ) (ls : CrossLists) (alignment auto-size : List ℕ) where
   pub across-checked : {x y a k m : ℕ} {v : Verdict} → SameLengths ls alignment auto-size → x ≡ mark (float Worked line) 0 → y ≡ mark (code 1 reversed) 0 → a ≡ min x y
       → k ≡ leastUpTo (λ i. leastOf (acrossNumbersAt ls alignment auto-size i) (i + 1)) (count ls) → m ≡ min a k → v ≡ judged m → v ≡ checked (acrossInput line reversed ls alignment auto-size) Passed
   across-checked e px py pa pk pm pv = pv ∙ ap judged (pm ∙ ap₂ min (pa ∙ ap₂ min px py ∙ container-two (float Worked line) (code 1 reversed)) pk) ∙ judged-is (acrossInput line reversed ls alignment auto-size) (e .even .few)

@@ -4,7 +4,7 @@ ghost use mathlib.Core.List.{[], _∷_};
 ghost use Rattle.checks.specs.Domain.{checked};
 ghost use Rattle.checks.specs.declared.Verdict.the-variants.{Passed};
 ghost use Rattle.checks.specs.Shapes.{shapeOf};
-ghost use Rattle.place_size.specs.CrossSize.{items};
+ghost use Rattle.place_size.specs.CrossSize.{crossLists};
 ghost use Rattle.place_cross.specs.Parts.{SameLengths};
 ghost use Rattle.place_across_call.specs.AcrossCall.{acrossInput, result, acrossCall};
 use checks::Answer;
@@ -89,9 +89,9 @@ fn check_across_numbers<'a>(
     alignment: &'a [u32],
     auto_size: &'a [u32],
 ) -> Verdict
-    requires { ⌜ SameLengths (items (now measured) (now minimum) (now maximum) (now capped) (now edges) (now start)
+    requires { ⌜ SameLengths (crossLists (now measured) (now minimum) (now maximum) (now capped) (now edges) (now start)
         (now end) (now «auto_start») (now «auto_end»)) (now alignment) (now «auto_size») ⌝ }
-    ensures { λ r. ⌜ r ≡ checked (acrossInput line reversed (items (now (measured .entry)) (now (minimum .entry))
+    ensures { λ r. ⌜ r ≡ checked (acrossInput line reversed (crossLists (now (measured .entry)) (now (minimum .entry))
         (now (maximum .entry)) (now (capped .entry)) (now (edges .entry)) (now (start .entry)) (now (end .entry))
         (now («auto_start» .entry)) (now («auto_end» .entry))) (now (alignment .entry)) (now («auto_size» .entry)))
         Passed ⌝ }
@@ -134,7 +134,7 @@ pub fn place_across<'a>(
     offsets: &mut [f32],
 ) -> Answer
     ensures { λ r. ⌜ result r (now (sizes .exit)) (now («used_start» .exit)) (now («used_end» .exit))
-        (now (offsets .exit)) ≡ acrossCall line reversed (items (now (measured .entry)) (now (minimum .entry))
+        (now (offsets .exit)) ≡ acrossCall line reversed (crossLists (now (measured .entry)) (now (minimum .entry))
         (now (maximum .entry)) (now (capped .entry)) (now (edges .entry)) (now (start .entry)) (now (end .entry))
         (now («auto_start» .entry)) (now («auto_end» .entry))) (now (alignment .entry)) (now («auto_size» .entry))
         (now (sizes .entry)) (now («used_start» .entry)) (now («used_end» .entry)) (now (offsets .entry)) ⌝ }

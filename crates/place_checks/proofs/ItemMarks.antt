@@ -6,12 +6,12 @@ use lib.ListN.{length}
 use Rattle.checks.specs.declared.Kind.the-variants.{Size, Margin}
 use Rattle.checks.specs.Lists.{floatAt, codeAt, besideAt}
 use Rattle.checks.proofs.Marked.{several, several-both}
-use Rattle.place_size.specs.CrossSize.{Items, count}
+use Rattle.place_size.specs.CrossSize.{CrossLists, count}
 use Rattle.place_size.specs.Parts.{CrossOneLength}
 use Rattle.place_cross.specs.Parts.{SameLengths}
 use Rattle.place_checks.specs.Numbers.{crossNumbersAt, acrossNumbersAt}
 
-module _ (ls : Items) where
+module _ (ls : CrossLists) where
   pub items-marked : CrossOneLength ls → {m l e h s t a b c d r : ℕ} → m ≡ several (floatAt Size (ls .measured)) (length (ls .measured)) → l ≡ several (floatAt Size (ls .minimum)) (length (ls .minimum))
       → e ≡ several (floatAt Size (ls .edges)) (length (ls .edges)) → h ≡ several (besideAt Size 1 (ls .maximum) (ls .capped)) (length (ls .maximum))
       → s ≡ several (besideAt Margin 0 (ls .start) (ls .auto-start)) (length (ls .start)) → t ≡ several (besideAt Margin 0 (ls .end) (ls .auto-end)) (length (ls .end))

@@ -13,7 +13,7 @@ use Rattle.keywords.specs.Space.{boundOf}
 use Rattle.place_size.specs.declared.container.Cross.{Cross}
 use Rattle.place_checks.specs.declared.numbers.CrossNumbers.{CrossNumbers}
 use Rattle.keywords.specs.Wrapping.{wrapOf}
-use Rattle.place_size.specs.CrossSize.{Items}
+use Rattle.place_size.specs.CrossSize.{CrossLists}
 
 -- ---- the container
 
@@ -47,17 +47,17 @@ sizingNumbers c = boundsNumbers c (code 4 (c .wrap) ∷ [])
 
 -- item i: measured size, minimum, padding plus border, the maximum where there is one, and the margins that are not
 -- auto
-abbrev pub crossNumbersAt : Items → ℕ → List Number
+abbrev pub crossNumbersAt : CrossLists → ℕ → List Number
 crossNumbersAt ls i = floatAt Size (ls .measured) i ++ (floatAt Size (ls .minimum) i
     ++ (floatAt Size (ls .edges) i ++ (besideAt Size 1 (ls .maximum) (ls .capped) i
     ++ (besideAt Margin 0 (ls .start) (ls .auto-start) i ++ besideAt Margin 0 (ls .end) (ls .auto-end) i))))
 
 -- and the codes of `align-self`, and of an auto cross size
-abbrev pub acrossNumbersAt : Items → List ℕ → List ℕ → ℕ → List Number
+abbrev pub acrossNumbersAt : CrossLists → List ℕ → List ℕ → ℕ → List Number
 acrossNumbersAt ls alignment auto-size i = crossNumbersAt ls i ++ (codeAt 10 alignment i ++ codeAt 1 auto-size i)
 
 -- the lengths of a line's lists
-abbrev pub itemLengths : Items → List ℕ
+abbrev pub itemLengths : CrossLists → List ℕ
 itemLengths ls =
     length (ls .measured) ∷ length (ls .minimum) ∷ length (ls .maximum) ∷ length (ls .capped) ∷ length (ls .edges) ∷
     length (ls .start) ∷ length (ls .end) ∷ length (ls .auto-start) ∷ length (ls .auto-end) ∷ []

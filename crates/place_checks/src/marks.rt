@@ -3,7 +3,7 @@ ghost use mathlib.Core.Path.{_≡_};
 ghost use Prim.Native.Nat.{_+_};
 ghost use lib.ListN.{length};
 ghost use Rattle.checks.specs.Marks.{leastOf, leastUpTo};
-ghost use Rattle.place_size.specs.CrossSize.{items};
+ghost use Rattle.place_size.specs.CrossSize.{crossLists};
 ghost use Rattle.place_size.specs.Parts.{CrossOneLength};
 ghost use Rattle.place_cross.specs.Parts.{SameLengths};
 ghost use Rattle.place_checks.specs.Numbers.{crossNumbersAt, acrossNumbersAt};
@@ -26,10 +26,11 @@ pub fn mark_cross_items<'a>(
     auto_start: &'a [u32],
     auto_end: &'a [u32],
 ) -> Mark
-    requires { ⌜ CrossOneLength (items (now measured) (now minimum) (now maximum) (now capped) (now edges) (now start)
+    requires { ⌜ CrossOneLength (crossLists (now measured) (now minimum) (now maximum) (now capped) (now edges)
+        (now start)
         (now end) (now «auto_start») (now «auto_end»)) ⌝ }
     ensures { λ r. ⌜ r .0 ≡ leastUpTo (λ i. leastOf (crossNumbersAt
-        (items (now (measured .entry)) (now (minimum .entry)) (now (maximum .entry)) (now (capped .entry))
+        (crossLists (now (measured .entry)) (now (minimum .entry)) (now (maximum .entry)) (now (capped .entry))
         (now (edges .entry)) (now (start .entry)) (now (end .entry)) (now («auto_start» .entry))
         (now («auto_end» .entry))) i) (i + 1)) (length (now (measured .entry))) ⌝ }
 {
@@ -59,10 +60,10 @@ pub fn mark_across<'a>(
     alignment: &'a [u32],
     auto_size: &'a [u32],
 ) -> Mark
-    requires { ⌜ SameLengths (items (now measured) (now minimum) (now maximum) (now capped) (now edges) (now start)
+    requires { ⌜ SameLengths (crossLists (now measured) (now minimum) (now maximum) (now capped) (now edges) (now start)
         (now end) (now «auto_start») (now «auto_end»)) (now alignment) (now «auto_size») ⌝ }
     ensures { λ r. ⌜ r .0 ≡ leastUpTo (λ i. leastOf (acrossNumbersAt
-        (items (now (measured .entry)) (now (minimum .entry)) (now (maximum .entry)) (now (capped .entry))
+        (crossLists (now (measured .entry)) (now (minimum .entry)) (now (maximum .entry)) (now (capped .entry))
         (now (edges .entry)) (now (start .entry)) (now (end .entry)) (now («auto_start» .entry))
         (now («auto_end» .entry))) (now (alignment .entry)) (now («auto_size» .entry)) i) (i + 1))
         (length (now (measured .entry))) ⌝ }

@@ -14,7 +14,7 @@ use Rattle.grid.proofs.Meaning.{at-of-grid, grid-of-at}
 use Rattle.grid.proofs.Sums.{six, abs-add, abs-sub}
 use Rattle.place_size.specs.CrossSize.{orNought, margins}
 use Rattle.place_size.specs.declared.cross_size.CrossItem.{CrossItem}
-use Rattle.place_cross.specs.CrossAxis.{hasAuto, freeSpace, autoMargin, startMargin, endMargin}
+use Rattle.place_cross.specs.CrossAxis.{hasAuto, freeCross, autoMargin, startMargin, endMargin}
 
 -- ---- whole numbers: what is left of l beside w and e, and e more
 
@@ -60,7 +60,7 @@ module _ (line size : Float) (it : CrossItem) where
   end = orNought (it .«auto_end») (it .end)
 
   abbrev free : Float
-  free = freeSpace line it size
+  free = freeCross line it size
 
   -- "if the block-start or inline-start margin (whichever is in the cross axis) is auto, set it to zero": it is its given one, or 0
   pub short-start : lt free nought ≡ true → startMargin free it ≡ start
@@ -70,7 +70,7 @@ module _ (line size : Float) (it : CrossItem) where
   module _ (hl : Small line) (hz : Small size) (hs : Small start) (he : Small end) where
     -- what line, size and given margins leave
     left : At 64 free (sixtyFourths line -ℤ (sixtyFourths size +ℤ (sixtyFourths start +ℤ sixtyFourths end)))
-    unfolding freeSpace margins
+    unfolding freeCross margins
     left =
         let s = sixtyFourths start in
         let e = sixtyFourths end in

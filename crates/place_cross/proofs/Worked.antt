@@ -7,9 +7,9 @@ use lib.Ieee.{Float, ofBits, ofInt, add, sub, div, lt}
 use Rattle.grid.specs.Floats.{_⊖_, nought, counted}
 use Rattle.grid.specs.Grid.{cleaned}
 use Rattle.keywords.specs.declared.SelfAlignment.the-variants.{Stretch}
-use Rattle.place_size.specs.CrossSize.{margins, clamp}
+use Rattle.place_size.specs.CrossSize.{margins, crossClamp}
 use Rattle.place_size.specs.declared.cross_size.CrossItem.{CrossItem}
-use Rattle.place_cross.specs.CrossAxis.{usedSize, isStretched, freeSpace, autoMargin, startMargin, endMargin, crossOffset, placedItem}
+use Rattle.place_cross.specs.CrossAxis.{usedSize, isStretched, freeCross, autoMargin, startMargin, endMargin, crossOffset, placedItem}
 
 -- pixels, of either sign
 abbrev pub px : ℕ → Float
@@ -50,5 +50,5 @@ pub record Worked : Type 0 where
   pub exact : Placed 40 auto auto nought nought
 
 pub worked : Worked
-unfolding less isAuto number item placedItem usedSize isStretched clamp margins freeSpace startMargin endMargin autoMargin crossOffset cleaned ofBits ofInt add sub div lt
+unfolding less isAuto number item placedItem usedSize isStretched crossClamp margins freeCross startMargin endMargin autoMargin crossOffset cleaned ofBits ofInt add sub div lt
 worked = record { both = λ r. refl; end-given-0 = λ r. refl; end-given-6 = λ r. refl; start-given-5 = λ r. refl; end-given-minus-6 = λ r. refl; long = λ r. refl; long-end-given-6 = λ r. refl; long-start-given-5 = λ r. refl; exact = λ r. refl }

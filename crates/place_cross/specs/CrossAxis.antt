@@ -15,7 +15,7 @@ use Rattle.grid.specs.Floats.{_⊕_, _⊖_, _⊘_, nought, two}
 use Rattle.keywords.specs.Alignment.{selfOf}
 use Rattle.place_align.specs.Align.{selfOffset}
 use Rattle.lists.specs.Cells.{overwritten}
-use Rattle.place_size.specs.CrossSize.{clamp, hypotheticalCross, margins, Items, count, crossItemAt, yes}
+use Rattle.place_size.specs.CrossSize.{crossClamp, hypotheticalCross, margins, CrossLists, count, crossItemAt, yes}
 
 abbrev pub isStretch : SelfAlignment → Bool
 isStretch (Unsafe p) = false
@@ -32,11 +32,11 @@ isStretched it alignment auto-size = isStretch alignment && not (hasAuto it) && 
 
 -- ".. take the line less margins, clamped"; the others keep their clamped measured size
 unfoldable pub usedSize : Float → CrossItem → Bool → Float
-usedSize line it stretched = cond stretched (clamp it (line ⊖ margins it)) (hypotheticalCross it)
+usedSize line it stretched = cond stretched (crossClamp it (line ⊖ margins it)) (hypotheticalCross it)
 
 -- what the line has left beside the item and its margins
-unfoldable pub freeSpace : Float → CrossItem → Float → Float
-freeSpace line it size = line ⊖ (size ⊕ margins it)
+unfoldable pub freeCross : Float → CrossItem → Float → Float
+freeCross line it size = line ⊖ (size ⊕ margins it)
 
 -- CSS-FLEX 9.6: "If its outer cross size .. is less than the cross size of its flex line, distribute the difference in
 -- those sizes equally to the auto margins. ..
@@ -64,7 +64,7 @@ crossOffset free reversed it alignment = cond (hasAuto it) nought (selfOffset fr
 unfoldable pub placedItem : Float → Bool → CrossItem → SelfAlignment → Bool → CrossPlace
 placedItem line reversed it alignment auto-size =
     let size = usedSize line it (isStretched it alignment auto-size) in
-    let free = freeSpace line it size in
+    let free = freeCross line it size in
     record {
       size = cleaned size;
       start = cleaned (startMargin free it);
@@ -74,30 +74,30 @@ placedItem line reversed it alignment auto-size =
 
 -- ---- the items in lists
 
-abbrev pub placedAt : Float → Bool → Items → List ℕ → List ℕ → ℕ → CrossPlace
+abbrev pub placedAt : Float → Bool → CrossLists → List ℕ → List ℕ → ℕ → CrossPlace
 placedAt line reversed ls alignment auto-size i =
     placedItem (cleaned line) reversed (crossItemAt ls i) (selfOf (getD alignment i 0)) (yes auto-size i)
 
 -- ---- the answers: lent cells as the call leaves them
 
-abbrev pub usedSizes : Float → Bool → Items → List ℕ → List ℕ → List Float → List Float
+abbrev pub usedSizes : Float → Bool → CrossLists → List ℕ → List ℕ → List Float → List Float
 usedSizes line reversed ls alignment auto-size =
     overwritten (count ls) (λ i. placedAt line reversed ls alignment auto-size i .size)
 
-abbrev pub usedStarts : Float → Bool → Items → List ℕ → List ℕ → List Float → List Float
+abbrev pub usedStarts : Float → Bool → CrossLists → List ℕ → List ℕ → List Float → List Float
 usedStarts line reversed ls alignment auto-size =
     overwritten (count ls) (λ i. placedAt line reversed ls alignment auto-size i .start)
 
-abbrev pub usedEnds : Float → Bool → Items → List ℕ → List ℕ → List Float → List Float
+abbrev pub usedEnds : Float → Bool → CrossLists → List ℕ → List ℕ → List Float → List Float
 usedEnds line reversed ls alignment auto-size =
     overwritten (count ls) (λ i. placedAt line reversed ls alignment auto-size i .end)
 
-abbrev pub itemOffsets : Float → Bool → Items → List ℕ → List ℕ → List Float → List Float
+abbrev pub itemOffsets : Float → Bool → CrossLists → List ℕ → List ℕ → List Float → List Float
 itemOffsets line reversed ls alignment auto-size =
     overwritten (count ls) (λ i. placedAt line reversed ls alignment auto-size i .offset)
 
 -- the lent cells after the call, beside those before it
-pub record Across (line : Float) (reversed : Bool) (ls : Items) (alignment auto-size : List ℕ)
+pub record Across (line : Float) (reversed : Bool) (ls : CrossLists) (alignment auto-size : List ℕ)
     (sizes₀ starts₀ ends₀ offsets₀ sizes starts ends offsets : List Float) : Type 0 where
   pub sizes-are : sizes ≡ usedSizes line reversed ls alignment auto-size sizes₀
   pub starts-are : starts ≡ usedStarts line reversed ls alignment auto-size starts₀

@@ -5,11 +5,11 @@ use mathlib.Core.List.{List}
 use Prim.Native.Nat.{ℕ, _≤_}
 use lib.ListN.{length}
 use lib.Ieee.{Float}
-use Rattle.place_size.specs.CrossSize.{Items, count}
+use Rattle.place_size.specs.CrossSize.{CrossLists, count}
 use Rattle.place_size.specs.Parts.{CrossOneLength}
 
 -- the codes of `align-self`, and of an auto cross size, are as many as the items
-pub record SameLengths (ls : Items) (alignment auto-size : List ℕ) : Type 0 where
+pub record SameLengths (ls : CrossLists) (alignment auto-size : List ℕ) : Type 0 where
   pub even : CrossOneLength ls
   pub alignment-length : length alignment ≡ count ls
   pub auto-length : length auto-size ≡ count ls

@@ -3,8 +3,8 @@ ghost use mathlib.Core.Path.{_≡_};
 ghost use mathlib.Core.Bool.{_&&_};
 ghost use Prim.Native.Nat.{_<_};
 ghost use lib.ListN.{length};
-ghost use Rattle.place_size.specs.CrossSize.{items};
-ghost use Rattle.place_cross.specs.CrossAxis.{isStretched, usedSize, freeSpace, autoMargin, startMargin};
+ghost use Rattle.place_size.specs.CrossSize.{crossLists};
+ghost use Rattle.place_cross.specs.CrossAxis.{isStretched, usedSize, freeCross, autoMargin, startMargin};
 ghost use Rattle.place_cross.specs.CrossAxis.{endMargin, crossOffset, placedItem, Across};
 ghost use Rattle.place_cross.specs.Parts.{SameLengths, AcrossRoom};
 use keywords::SelfAlignment;
@@ -48,7 +48,7 @@ fn used_cross_size(line: f32, it: CrossItem, stretched: bool) -> f32
 }
 
 fn free_cross_space(line: f32, it: CrossItem, size: f32) -> f32
-    ensures { λ r. ⌜ r ≡ freeSpace line it size ⌝ }
+    ensures { λ r. ⌜ r ≡ freeCross line it size ⌝ }
 {
     line - (size + cross_size::margin_sum(it))
 }
@@ -150,10 +150,11 @@ pub fn place_items<'a>(
     used_end: &mut [f32],
     offsets: &mut [f32],
 )
-    requires { ⌜ SameLengths (items (now measured) (now minimum) (now maximum) (now capped) (now edges) (now start)
+    requires { ⌜ SameLengths (crossLists (now measured) (now minimum) (now maximum) (now capped) (now edges) (now start)
         (now end) (now «auto_start») (now «auto_end»)) (now alignment) (now «auto_size») ⌝ }
     requires { ⌜ AcrossRoom (length (now measured)) (now sizes) (now «used_start») (now «used_end») (now offsets) ⌝ }
-    ensures { λ _. ⌜ Across line reversed (items (now (measured .entry)) (now (minimum .entry)) (now (maximum .entry))
+    ensures { λ _. ⌜ Across line reversed (crossLists (now (measured .entry)) (now (minimum .entry))
+        (now (maximum .entry))
         (now (capped .entry)) (now (edges .entry)) (now (start .entry)) (now (end .entry)) (now («auto_start» .entry))
         (now («auto_end» .entry))) (now (alignment .entry)) (now («auto_size» .entry)) (now (sizes .entry))
         (now («used_start» .entry)) (now («used_end» .entry)) (now (offsets .entry)) (now (sizes .exit))

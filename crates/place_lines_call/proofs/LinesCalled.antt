@@ -20,7 +20,7 @@ use Rattle.place_cross.specs.Lines.{Aligned}
 use Rattle.checks.specs.Shapes.{shapeOf}
 use Rattle.checks.specs.Lists.{floatAt}
 use Rattle.place_checks.specs.Numbers.{crossOf, crossNumbers}
-use Rattle.place_lines_call.specs.LinesCall.{crossLinesInput, linesVerdict, LinesResult, result, linesInto, linesCall}
+use Rattle.place_lines_call.specs.LinesCall.{crossLinesInput, crossLinesVerdict, LinesResult, result, linesInto, linesCall}
 use Rattle.checks.proofs.Marked.{judged-is, shaped}
 
 module _ (c : CrossNumbers) (alignment : ℕ) (lines : List Float) where
@@ -37,12 +37,12 @@ module _ (c : CrossNumbers) (alignment : ℕ) (lines : List Float) where
     lines-room p = let q = shaped (length lines) [] rooms p in (q .2 .0, q .2 .1 .0, q .0)
 
     pub lines-shape-refused : {v : Verdict} {why : Refusal} → v ≡ shapeOf (length lines ∷ []) (length s ∷ length o ∷ []) (length lines) → v ≡ verdict.Refused why → result (Refused why) s o ≡ linesCall c alignment lines s o
-    unfolding linesVerdict
+    unfolding crossLinesVerdict
     lines-shape-refused p q = sym (ap (λ (x : Verdict). linesInto (then x (checked (crossLinesInput c alignment lines) Passed)) c alignment lines s o) (sym p ∙ q))
 
     module _ {v w : Verdict} (p : v ≡ shapeOf (length lines ∷ []) (length s ∷ length o ∷ []) (length lines)) (p-passed : v ≡ Passed) (q : w ≡ checked (crossLinesInput c alignment lines) Passed) where
-      verdict-is : linesVerdict c alignment lines rooms ≡ w
-      unfolding linesVerdict
+      verdict-is : crossLinesVerdict c alignment lines rooms ≡ w
+      unfolding crossLinesVerdict
       verdict-is = ap (λ (x : Verdict). then x (checked (crossLinesInput c alignment lines) Passed)) (sym p ∙ p-passed) ∙ sym q
 
       pub lines-numbers-refused : {why : Refusal} → w ≡ verdict.Refused why → result (Refused why) s o ≡ linesCall c alignment lines s o

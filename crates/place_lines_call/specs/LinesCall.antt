@@ -27,8 +27,8 @@ crossLinesInput c alignment lines = record {
 }
 
 -- checks 1 to 5: a call without main sizes never gives 6
-unfoldable pub linesVerdict : CrossNumbers → ℕ → List Float → List ℕ → Verdict
-linesVerdict c alignment lines rooms =
+unfoldable pub crossLinesVerdict : CrossNumbers → ℕ → List Float → List ℕ → Verdict
+crossLinesVerdict c alignment lines rooms =
     then (shapeOf (length lines ∷ []) rooms (length lines)) (checked (crossLinesInput c alignment lines) Passed)
 
 -- the call's answer, and its lent lists as it returns: the lines' sizes, and their offsets
@@ -54,4 +54,4 @@ linesInto Passed c alignment lines s o = along (readCross (crossOf c)) alignment
 -- leaves the lines' sizes and offsets
 abbrev pub linesCall : CrossNumbers → ℕ → List Float → List Float → List Float → LinesResult
 linesCall c alignment lines s o =
-    linesInto (linesVerdict c alignment lines (length s ∷ length o ∷ [])) c alignment lines s o
+    linesInto (crossLinesVerdict c alignment lines (length s ∷ length o ∷ [])) c alignment lines s o

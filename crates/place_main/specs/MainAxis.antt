@@ -28,12 +28,12 @@ abbrev pub count : LineLists → ℕ
 count l = length (l .targets)
 
 -- "each size + (start margin + end margin), auto margins as 0"
-unfoldable pub outer : Float → ℕ → Float → ℕ → Float → Float
-outer target auto-start start auto-end end =
+unfoldable pub mainOuter : Float → ℕ → Float → ℕ → Float → Float
+mainOuter target auto-start start auto-end end =
     cleaned target ⊕ (margin nought auto-start start ⊕ margin nought auto-end end)
 
 abbrev pub outerAt : LineLists → ℕ → Float
-outerAt l i = outer (getD (l .targets) i nan) (getD (l .auto-start) i 0) (getD (l .start) i nan)
+outerAt l i = mainOuter (getD (l .targets) i nan) (getD (l .auto-start) i 0) (getD (l .start) i nan)
     (getD (l .auto-end) i 0) (getD (l .end) i nan)
 
 -- "Free space is inner size less the targets' used space": the gaps, and the finished sum of the outer sizes

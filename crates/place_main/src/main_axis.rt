@@ -4,7 +4,8 @@ ghost use Prim.Native.Nat.{_≤_};
 ghost use lib.ListN.{length};
 ghost use Rattle.place_align.specs.Sums.{totalUpTo};
 ghost use Rattle.place_align.specs.Axis.{autos};
-ghost use Rattle.place_main.specs.MainAxis.{lineLists, outer, outerAt, freeSpace, autoShare, justified, Spaced};
+ghost use Rattle.place_main.specs.MainAxis.{lineLists, mainOuter, outerAt, freeSpace, autoShare, justified};
+ghost use Rattle.place_main.specs.MainAxis.{Spaced};
 ghost use Rattle.place_main.specs.Parts.{MainOneLength};
 use grid::floats::sum_axis_gaps;
 use keywords::ContentAlignment;
@@ -12,7 +13,7 @@ use place_align::axis;
 
 // An item with its margins, auto ones as 0.
 fn outer_size(target: f32, auto_start: u32, start: f32, auto_end: u32, end: f32) -> f32
-    ensures { λ r. ⌜ r ≡ outer target «auto_start» start «auto_end» end ⌝ }
+    ensures { λ r. ⌜ r ≡ mainOuter target «auto_start» start «auto_end» end ⌝ }
 {
     let before = axis::margin_or(0.0, auto_start, start);
     let after = axis::margin_or(0.0, auto_end, end);

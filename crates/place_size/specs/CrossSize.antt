@@ -15,12 +15,12 @@ use Rattle.place_size.specs.Container.{readCross, innerSize, orBounded}
 -- ---- an item
 
 -- lowered to the maximum, where there is one, raised to the minimum, then to padding plus border
-unfoldable pub clamp : CrossItem → Float → Float
-clamp it x = raised (raised (cond (it .capped) (lowered x (it .maximum)) x) (it .minimum)) (it .edges)
+unfoldable pub crossClamp : CrossItem → Float → Float
+crossClamp it x = raised (raised (cond (it .capped) (lowered x (it .maximum)) x) (it .minimum)) (it .edges)
 
 -- "measured sizes first clamped by their item's bounds"
 abbrev pub hypotheticalCross : CrossItem → Float
-hypotheticalCross it = clamp it (it .measured)
+hypotheticalCross it = crossClamp it (it .measured)
 
 -- auto margins as 0
 abbrev pub orNought : Bool → Float → Float
@@ -48,7 +48,7 @@ readItem it = record {
 
 -- ---- the items of a line in lists
 
-pub record Items : Type 0 where
+pub record CrossLists : Type 0 where
   pub measured : List Float
   pub minimum : List Float
   pub maximum : List Float
@@ -59,9 +59,9 @@ pub record Items : Type 0 where
   pub auto-start : List ℕ
   pub auto-end : List ℕ
 
-abbrev pub items : List Float → List Float → List Float → List ℕ → List Float → List Float → List Float → List ℕ
-    → List ℕ → Items
-items m l h k e s t p q = record {
+abbrev pub crossLists : List Float → List Float → List Float → List ℕ → List Float → List Float → List Float → List ℕ
+    → List ℕ → CrossLists
+crossLists m l h k e s t p q = record {
   measured = m;
   minimum = l;
   maximum = h;
@@ -73,14 +73,14 @@ items m l h k e s t p q = record {
   auto-end = q;
 }
 
-abbrev pub count : Items → ℕ
+abbrev pub count : CrossLists → ℕ
 count ls = length (ls .measured)
 
 -- a code is yes where it is not 0
 abbrev pub yes : List ℕ → ℕ → Bool
 yes codes i = not (eqb (getD codes i 0) 0)
 
-abbrev pub rawAt : Items → ℕ → CrossItem
+abbrev pub rawAt : CrossLists → ℕ → CrossItem
 rawAt ls i = record {
   measured = getD (ls .measured) i nan;
   minimum = getD (ls .minimum) i nan;
@@ -93,7 +93,7 @@ rawAt ls i = record {
   «auto_end» = yes (ls .auto-end) i;
 }
 
-abbrev pub crossItemAt : Items → ℕ → CrossItem
+abbrev pub crossItemAt : CrossLists → ℕ → CrossItem
 crossItemAt ls i = readItem (rawAt ls i)
 
 -- ---- the line
@@ -103,7 +103,7 @@ unfoldable pub largest : (ℕ → Float) → ℕ → Float
 largest f zero = nought
 largest f (suc n) = raised (largest f n) (f n)
 
-abbrev pub largestOuter : Items → Float
+abbrev pub largestOuter : CrossLists → Float
 largestOuter ls = largest (λ i. outerSize (crossItemAt ls i)) (count ls)
 
 -- "Line size is the inner cross size for a single-line definite container, else the largest outer cross size .. and
@@ -111,5 +111,5 @@ largestOuter ls = largest (λ i. outerSize (crossItemAt ls i)) (count ls)
 unfoldable pub lineCrossSize : Cross → Float → Float
 lineCrossSize c x = cleaned (cond (isSingleLine (c .wrap)) (orBounded c (innerSize c) x) x)
 
-abbrev pub crossLineSize : Cross → Items → Float
+abbrev pub crossLineSize : Cross → CrossLists → Float
 crossLineSize c ls = lineCrossSize (readCross c) (largestOuter ls)

@@ -3,10 +3,10 @@
 use mathlib.Core.Path.{_≡_}
 use Prim.Native.Nat.{_≤_}
 use lib.ListN.{length}
-use Rattle.place_size.specs.CrossSize.{Items, count}
+use Rattle.place_size.specs.CrossSize.{CrossLists, count}
 
 -- the lists are of one length, of at most 1,024
-pub record CrossOneLength (ls : Items) : Type 0 where
+pub record CrossOneLength (ls : CrossLists) : Type 0 where
   pub few : count ls ≤ 1024
   pub minimum : length (ls .minimum) ≡ count ls
   pub maximum : length (ls .maximum) ≡ count ls

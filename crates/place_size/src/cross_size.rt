@@ -2,8 +2,8 @@
 ghost use mathlib.Core.Path.{_≡_};
 ghost use Prim.Native.Nat.{_<_};
 ghost use lib.ListN.{length};
-ghost use Rattle.place_size.specs.CrossSize.{clamp, orNought, margins, outerSize, readItem, items, crossItemAt};
-ghost use Rattle.place_size.specs.CrossSize.{largestOuter, lineCrossSize, crossLineSize};
+ghost use Rattle.place_size.specs.CrossSize.{crossClamp, orNought, margins, outerSize, readItem, crossLists};
+ghost use Rattle.place_size.specs.CrossSize.{crossItemAt, largestOuter, lineCrossSize, crossLineSize};
 ghost use Rattle.place_size.specs.Parts.{CrossOneLength};
 use crate::container;
 use crate::container::Cross;
@@ -25,7 +25,7 @@ pub struct CrossItem {
 
 // An item's size held to its bounds: padding plus border wins, then the minimum.
 pub fn clamp_item(it: CrossItem, x: f32) -> f32
-    ensures { λ r. ⌜ r ≡ clamp it x ⌝ }
+    ensures { λ r. ⌜ r ≡ crossClamp it x ⌝ }
 {
     if it.capped {
         return raise(raise(lower(x, it.maximum), it.minimum), it.edges);
@@ -83,10 +83,11 @@ pub fn item_at<'a>(
     auto_end: &'a [u32],
     i: usize,
 ) -> CrossItem
-    requires { ⌜ CrossOneLength (items (now measured) (now minimum) (now maximum) (now capped) (now edges) (now start)
+    requires { ⌜ CrossOneLength (crossLists (now measured) (now minimum) (now maximum) (now capped) (now edges)
+        (now start)
         (now end) (now «auto_start») (now «auto_end»)) ⌝ }
     requires { ⌜ i < length (now measured) ⌝ }
-    ensures { λ r. ⌜ r ≡ crossItemAt (items (now (measured .entry)) (now (minimum .entry)) (now (maximum .entry))
+    ensures { λ r. ⌜ r ≡ crossItemAt (crossLists (now (measured .entry)) (now (minimum .entry)) (now (maximum .entry))
         (now (capped .entry)) (now (edges .entry)) (now (start .entry)) (now (end .entry)) (now («auto_start» .entry))
         (now («auto_end» .entry))) i ⌝ }
 {
@@ -118,9 +119,10 @@ fn largest_outer<'a>(
     auto_start: &'a [u32],
     auto_end: &'a [u32],
 ) -> f32
-    requires { ⌜ CrossOneLength (items (now measured) (now minimum) (now maximum) (now capped) (now edges) (now start)
+    requires { ⌜ CrossOneLength (crossLists (now measured) (now minimum) (now maximum) (now capped) (now edges)
+        (now start)
         (now end) (now «auto_start») (now «auto_end»)) ⌝ }
-    ensures { λ r. ⌜ r ≡ largestOuter (items (now (measured .entry)) (now (minimum .entry)) (now (maximum .entry))
+    ensures { λ r. ⌜ r ≡ largestOuter (crossLists (now (measured .entry)) (now (minimum .entry)) (now (maximum .entry))
         (now (capped .entry)) (now (edges .entry)) (now (start .entry)) (now (end .entry)) (now («auto_start» .entry))
         (now («auto_end» .entry))) ⌝ }
 {
@@ -169,9 +171,11 @@ pub fn calculate_cross_size<'a>(
     auto_start: &'a [u32],
     auto_end: &'a [u32],
 ) -> f32
-    requires { ⌜ CrossOneLength (items (now measured) (now minimum) (now maximum) (now capped) (now edges) (now start)
+    requires { ⌜ CrossOneLength (crossLists (now measured) (now minimum) (now maximum) (now capped) (now edges)
+        (now start)
         (now end) (now «auto_start») (now «auto_end»)) ⌝ }
-    ensures { λ r. ⌜ r ≡ crossLineSize c (items (now (measured .entry)) (now (minimum .entry)) (now (maximum .entry))
+    ensures { λ r. ⌜ r ≡ crossLineSize c (crossLists (now (measured .entry)) (now (minimum .entry))
+        (now (maximum .entry))
         (now (capped .entry)) (now (edges .entry)) (now (start .entry)) (now (end .entry)) (now («auto_start» .entry))
         (now («auto_end» .entry))) ⌝ }
 {

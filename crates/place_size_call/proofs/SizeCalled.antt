@@ -14,14 +14,14 @@ use Rattle.checks.specs.Shapes.{shapeOf}
 use Rattle.checks.proofs.Marked.{judged-is, shaped}
 use Rattle.place_size.specs.declared.container.Cross.{Cross}
 use Rattle.place_checks.specs.declared.numbers.CrossNumbers.{CrossNumbers}
-use Rattle.place_size.specs.CrossSize.{Items, count, crossLineSize}
+use Rattle.place_size.specs.CrossSize.{CrossLists, count, crossLineSize}
 use Rattle.place_size.specs.Parts.{CrossOneLength}
 use Rattle.place_checks.specs.Numbers.{crossOf, sizingNumbers, crossNumbersAt, itemLengths}
 use Rattle.place_size_call.specs.declared.SizeAnswer.{SizeAnswer}
 use Rattle.place_size_call.specs.declared.SizeAnswer.the-variants.{Sized, Refused}
 use Rattle.place_size_call.specs.SizeCall.{sizeInput, sizeVerdict, sizeInto, sizeCall}
 
-module _ (c : CrossNumbers) (ls : Items) where
+module _ (c : CrossNumbers) (ls : CrossLists) where
   pub size-checked : {a k m : ℕ} {v : Verdict} → CrossOneLength ls → a ≡ leastOf (sizingNumbers c) 0 → k ≡ leastUpTo (λ i. leastOf (crossNumbersAt ls i) (i + 1)) (count ls) → m ≡ min a k → v ≡ judged m
       → v ≡ checked (sizeInput c ls) Passed
   size-checked e p q r h = h ∙ ap judged (r ∙ ap₂ min p q) ∙ judged-is (sizeInput c ls) (e .few)

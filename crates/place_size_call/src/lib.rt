@@ -4,7 +4,7 @@ ghost use mathlib.Core.List.{[], _∷_};
 ghost use Rattle.checks.specs.Domain.{checked};
 ghost use Rattle.checks.specs.declared.Verdict.the-variants.{Passed};
 ghost use Rattle.checks.specs.Shapes.{shapeOf};
-ghost use Rattle.place_size.specs.CrossSize.{items};
+ghost use Rattle.place_size.specs.CrossSize.{crossLists};
 ghost use Rattle.place_size.specs.Parts.{CrossOneLength};
 ghost use Rattle.place_size_call.specs.SizeCall.{sizeInput, sizeCall};
 use checks::Refusal;
@@ -78,9 +78,10 @@ fn check_size_numbers<'a>(
     auto_start: &'a [u32],
     auto_end: &'a [u32],
 ) -> Verdict
-    requires { ⌜ CrossOneLength (items (now measured) (now minimum) (now maximum) (now capped) (now edges) (now start)
+    requires { ⌜ CrossOneLength (crossLists (now measured) (now minimum) (now maximum) (now capped) (now edges)
+        (now start)
         (now end) (now «auto_start») (now «auto_end»)) ⌝ }
-    ensures { λ r. ⌜ r ≡ checked (sizeInput c (items (now (measured .entry)) (now (minimum .entry))
+    ensures { λ r. ⌜ r ≡ checked (sizeInput c (crossLists (now (measured .entry)) (now (minimum .entry))
         (now (maximum .entry)) (now (capped .entry)) (now (edges .entry)) (now (start .entry)) (now (end .entry))
         (now («auto_start» .entry)) (now («auto_end» .entry)))) Passed ⌝ }
 {
@@ -111,7 +112,7 @@ pub fn size_line<'a>(
     auto_start: &'a [u32],
     auto_end: &'a [u32],
 ) -> SizeAnswer
-    ensures { λ r. ⌜ r ≡ sizeCall c (items (now (measured .entry)) (now (minimum .entry)) (now (maximum .entry))
+    ensures { λ r. ⌜ r ≡ sizeCall c (crossLists (now (measured .entry)) (now (minimum .entry)) (now (maximum .entry))
         (now (capped .entry)) (now (edges .entry)) (now (start .entry)) (now (end .entry)) (now («auto_start» .entry))
         (now («auto_end» .entry))) ⌝ }
 {

@@ -9,7 +9,7 @@ use Rattle.checks.specs.declared.Verdict.the-variants.{Passed}
 use Rattle.checks.specs.Domain.{Number, checked, shape, summed, then}
 use Rattle.checks.specs.Marks.{leastOf, judged}
 use Rattle.checks.proofs.Checks.{shape-passed}
-use Rattle.break_greedy.specs.Calls.{breakingInput, outerSum, breakingVerdict}
+use Rattle.break_greedy.specs.Calls.{breakingInput, sizesSum, breakingVerdict}
 use Rattle.break_greedy.proofs.Accepted.{then-refused, then-rest, breakingMark, verdict-is, passed-lawful}
 use borrow.Author.Needs.{needs}
 use Rattle.break_greedy.proofs.check_breaking.Statement.{statement}
@@ -35,18 +35,18 @@ marked c =
 
 -- the verdict of the call, from what is judged
 whole : (c : tie.After-judge) (cs : List Number) → let a = c .before .before .before .before .before .before .before .before .before .before .before .args in
-    a .codes .0 ≡ leastOf cs 0 → then (c .judge .result) (summed (outerSum (a .gap) (now (a .sizes)))) ≡ breakingVerdict cs (a .limit) (a .gap) (now (a .sizes)) (a .room)
+    a .codes .0 ≡ leastOf cs 0 → then (c .judge .result) (summed (sizesSum (a .gap) (now (a .sizes)))) ≡ breakingVerdict cs (a .limit) (a .gap) (now (a .sizes)) (a .room)
 whole c cs e =
     let a = c .before .before .before .before .before .before .before .before .before .before .before .args in
-    ap (λ (v : Verdict). then v (summed (outerSum (a .gap) (now (a .sizes))))) (marked c)
+    ap (λ (v : Verdict). then v (summed (sizesSum (a .gap) (now (a .sizes))))) (marked c)
     ∙ verdict-is cs (a .limit) (a .gap) (now (a .sizes)) (a .room) _ (shaped (c .before .before .before .before .before .before .before)) (ap (λ (k : ℕ). breakingMark k (a .limit) (a .gap) (now (a .sizes))) e)
 
 returns : tie.Need-returns
 unfolding breakingVerdict
 returns c cs e =
     let a = c .before .before .before .before .args in
-    sym (then-refused (checked (breakingInput cs (a .limit) (a .gap) (now (a .sizes))) (summed (outerSum (a .gap) (now (a .sizes))))) (c .enum-told2 .given .1))
-    ∙ ap (λ (v : Verdict). then v (checked (breakingInput cs (a .limit) (a .gap) (now (a .sizes))) (summed (outerSum (a .gap) (now (a .sizes)))))) (c .before .before .check-shape .ensures)
+    sym (then-refused (checked (breakingInput cs (a .limit) (a .gap) (now (a .sizes))) (summed (sizesSum (a .gap) (now (a .sizes))))) (c .enum-told2 .given .1))
+    ∙ ap (λ (v : Verdict). then v (checked (breakingInput cs (a .limit) (a .gap) (now (a .sizes))) (summed (sizesSum (a .gap) (now (a .sizes)))))) (c .before .before .check-shape .ensures)
 
 mark-floats-requires : tie.Need-mark-floats-requires
 mark-floats-requires c κs = few (c .before .before .before)

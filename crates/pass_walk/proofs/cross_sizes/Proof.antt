@@ -3,14 +3,14 @@ use Prim.Native.Nat.{ℕ, _+_, _-_}
 use native.Mathlib.Omega.{arith}
 use lib.ListN.{length, getD}
 use denote.Ref.{now}
-use Rattle.place_size.specs.CrossSize.{Items, items}
+use Rattle.place_size.specs.CrossSize.{CrossLists, crossLists}
 use Rattle.pass_walk.proofs.Sizing.{Inside, lent-even, Sizing, sizing-none, sizing-long, sizing-inside, sizing-next, sizing-all}
 use Rattle.pass_walk.proofs.cross_sizes.Statement.{statement}
 use Rattle.pass_walk.proofs.cross_sizes.Tie as tie
 
 abbrev Inv-loop : tie.InvT-loop
 Inv-loop c counts measured minimum maximum capped edges start end auto-start auto-end sizes₀ from₀ j₀ sizes from j =
-    Sizing c counts (items measured minimum maximum capped edges start end auto-start auto-end) sizes₀ sizes from j
+    Sizing c counts (crossLists measured minimum maximum capped edges start end auto-start auto-end) sizes₀ sizes from j
 
 abbrev μ-loop : tie.MeasureT-loop
 μ-loop c counts measured minimum maximum capped edges start end auto-start auto-end sizes₀ from₀ j₀ sizes from j = length counts - j
@@ -18,8 +18,8 @@ abbrev μ-loop : tie.MeasureT-loop
 abbrev start-of : tie.At-loop Inv-loop μ-loop → tie.Start Inv-loop μ-loop
 start-of c = c .before .before .before .before .before .before .before .before .before .before .before .before
 
-abbrev items-of : tie.Start Inv-loop μ-loop → Items
-items-of s = items (now (s .args .measured)) (now (s .args .minimum)) (now (s .args .maximum)) (now (s .args .capped)) (now (s .args .edges)) (now (s .args .start)) (now (s .args .end)) (now (s .args .auto-start)) (now (s .args .auto-end))
+abbrev items-of : tie.Start Inv-loop μ-loop → CrossLists
+items-of s = crossLists (now (s .args .measured)) (now (s .args .minimum)) (now (s .args .maximum)) (now (s .args .capped)) (now (s .args .edges)) (now (s .args .start)) (now (s .args .end)) (now (s .args .auto-start)) (now (s .args .auto-end))
 
 -- where the line ends
 abbrev to-of : tie.In-loop Inv-loop μ-loop → ℕ

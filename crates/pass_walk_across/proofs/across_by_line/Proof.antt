@@ -4,14 +4,14 @@ use Prim.Native.Nat.{ℕ, _+_, _-_}
 use native.Mathlib.Omega.{arith}
 use lib.ListN.{length, getD}
 use denote.Ref.{now}
-use Rattle.place_size.specs.CrossSize.{Items, items}
+use Rattle.place_size.specs.CrossSize.{CrossLists, crossLists}
 use Rattle.pass_walk_across.proofs.Placing.{Placing, placing-none, placing-next, placing-all, Turn, turn-of, line-sized, lent-lengths, lent-room}
 use Rattle.pass_walk_across.proofs.across_by_line.Statement.{statement}
 use Rattle.pass_walk_across.proofs.across_by_line.Tie as tie
 
 abbrev Inv-loop : tie.InvT-loop
 Inv-loop reversed counts line-sizes measured minimum maximum capped edges start end auto-start auto-end alignment auto-size sizes₀ used-start₀ used-end₀ offsets₀ from₀ j₀ sizes used-start used-end offsets from j =
-    Placing reversed counts line-sizes (items measured minimum maximum capped edges start end auto-start auto-end) alignment auto-size sizes₀ used-start₀ used-end₀ offsets₀ sizes used-start used-end offsets from j
+    Placing reversed counts line-sizes (crossLists measured minimum maximum capped edges start end auto-start auto-end) alignment auto-size sizes₀ used-start₀ used-end₀ offsets₀ sizes used-start used-end offsets from j
 
 abbrev μ-loop : tie.MeasureT-loop
 μ-loop reversed counts line-sizes measured minimum maximum capped edges start end auto-start auto-end alignment auto-size sizes₀ used-start₀ used-end₀ offsets₀ from₀ j₀ sizes used-start used-end offsets from j = length counts - j
@@ -19,8 +19,8 @@ abbrev μ-loop : tie.MeasureT-loop
 abbrev start-of : tie.At-loop Inv-loop μ-loop → tie.Start Inv-loop μ-loop
 start-of c = c .before .before .before .before .before .before .before .before .before .before .before .before .before .before .before .before .before .before
 
-abbrev items-of : tie.Start Inv-loop μ-loop → Items
-items-of s = items (now (s .args .measured)) (now (s .args .minimum)) (now (s .args .maximum)) (now (s .args .capped)) (now (s .args .edges)) (now (s .args .start)) (now (s .args .end)) (now (s .args .auto-start)) (now (s .args .auto-end))
+abbrev items-of : tie.Start Inv-loop μ-loop → CrossLists
+items-of s = crossLists (now (s .args .measured)) (now (s .args .minimum)) (now (s .args .maximum)) (now (s .args .capped)) (now (s .args .edges)) (now (s .args .start)) (now (s .args .end)) (now (s .args .auto-start)) (now (s .args .auto-end))
 
 -- where the line ends
 abbrev to-of : tie.In-loop Inv-loop μ-loop → ℕ

@@ -1,14 +1,14 @@
 -- `place_across_call::place_across` meets its contract: the checks refuse, or the items are placed. Assumes nothing.
 use denote.Ref.{now}
-use Rattle.place_size.specs.CrossSize.{Items, items}
+use Rattle.place_size.specs.CrossSize.{CrossLists, crossLists}
 use Rattle.place_across_call.proofs.AcrossCalled.{across-lengths, across-shape-refused, across-numbers-refused, across-placed}
 use borrow.Author.Needs.{needs}
 use Rattle.place_across_call.proofs.place_across.Statement.{statement}
 use Rattle.place_across_call.proofs.place_across.Tie as tie
 
 -- the lists that the function is called with
-abbrev given : tie.Start → Items
-given s = items (now (s .args .measured)) (now (s .args .minimum)) (now (s .args .maximum)) (now (s .args .capped)) (now (s .args .edges)) (now (s .args .start)) (now (s .args .end)) (now (s .args .auto-start)) (now (s .args .auto-end))
+abbrev given : tie.Start → CrossLists
+given s = crossLists (now (s .args .measured)) (now (s .args .minimum)) (now (s .args .maximum)) (now (s .args .capped)) (now (s .args .edges)) (now (s .args .start)) (now (s .args .end)) (now (s .args .auto-start)) (now (s .args .auto-end))
 
 returns : tie.Need-returns
 returns c =

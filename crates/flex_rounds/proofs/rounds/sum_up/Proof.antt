@@ -10,7 +10,7 @@ use denote.Ref.{now}
 use Rattle.lists.specs.Cells.{each}
 use Rattle.flex.specs.declared.Item.{Item}
 use Rattle.flex.specs.declared.Sums.{Sums}
-use Rattle.flex.specs.Flex.{Cell, taken, factor, weight}
+use Rattle.flex.specs.Flex.{Cell, outerNow, factor, weight}
 use Rattle.flex.specs.Steps.{Added, Summed}
 use Rattle.flex_rounds.specs.Cells.{cellAt}
 use Rattle.flex_table.proofs.Each.{total-none, left-none, sum-turn, left-sum, unfrozen-none, unfrozen-next}
@@ -29,7 +29,7 @@ given s = cellAt (now (s .args .table)) (s .args .from) (now (s .args .frozen)) 
 
 summed-turn : (growing : Bool) (g : ℕ → Cell) (i : ℕ) (s r : Sums) → Summed growing (each i g) s → Added growing (g i .item) (g i .frozen) (g i .target) s r → Summed growing (each (i + 1) g) r
 summed-turn growing g i s r p q = record {
-  outer = q .outer ∙ sum-turn taken g i (s .outer) (taken (g i)) (p .outer) refl;
+  outer = q .outer ∙ sum-turn outerNow g i (s .outer) (outerNow (g i)) (p .outer) refl;
   factors = q .factors ∙ left-sum (λ d. factor growing (d .item)) g i (s .factors) (p .factors);
   weights = q .weights ∙ left-sum (λ d. weight growing (d .item)) g i (s .weights) (p .weights);
   number = q .number ∙ unfrozen-next g i (s .left) (p .number);
@@ -43,7 +43,7 @@ few-more false k r i e h = omega arith
 loop-holds : tie.Need-loop-holds Inv-loop μ-loop
 loop-holds c =
     let s = c .before .before .before in
-    (zero-le, zero-le, record { outer = sym (total-none taken (given s)); factors = sym (left-none (λ d. factor (s .args .growing) (d .item)) (given s)); weights = sym (left-none (λ d. weight (s .args .growing) (d .item)) (given s)); number = sym (unfrozen-none (given s)) })
+    (zero-le, zero-le, record { outer = sym (total-none outerNow (given s)); factors = sym (left-none (λ d. factor (s .args .growing) (d .item)) (given s)); weights = sym (left-none (λ d. weight (s .args .growing) (d .item)) (given s)); number = sym (unfrozen-none (given s)) })
 
 add-pick : tie.Need-add-pick Inv-loop μ-loop
 add-pick c = omega (arith, c .loop-test .taken, c .before .before .before .before .before .pre .inside .0)
