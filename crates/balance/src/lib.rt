@@ -1,4 +1,6 @@
 // Balanced breaking (document 01, "Breaking"): the call, and what lends the search exactly the cells that it takes.
+#![tactic(auto)]
+
 ghost use Rattle.std.specs.Prelude.{◌≡◌, [], ◌≤◌, length};
 ghost use Rattle.break_greedy.specs.Steps.{Breakable};
 ghost use Rattle.balance.specs.Calls.{break_lent, room_for, Divides, BalancedCall};

@@ -1,5 +1,7 @@
 // The choice of one start of a row: the end of its line, among the ends that it may have. Parts of balanced breaking,
 // behind its checks: no entry points.
+#![tactic(auto)]
+
 ghost use Rattle.std.specs.Prelude.{cond, false, length, ◌≡◌, ◌+◌, ◌≤◌, ◌<◌};
 ghost use Rattle.std.specs.Float.Ieee.{le};
 ghost use Rattle.balance_sums.specs.Sums.{base_f};

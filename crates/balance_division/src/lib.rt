@@ -1,5 +1,7 @@
 // The balanced division of accepted sizes, by the plain rule, with the lent work cells left zero. Parts of
 // balanced breaking, behind its checks: no entry points.
+#![tactic(auto)]
+
 ghost use Rattle.std.specs.Prelude.{◌≡◌, ◌*◌, length};
 ghost use Rattle.break_greedy.specs.Breaking.{limit_of};
 ghost use Rattle.break_greedy.specs.Steps.{Breakable, LengthLimit};

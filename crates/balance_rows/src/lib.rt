@@ -1,5 +1,7 @@
 // The rows of the dynamic program: row k has the best division of the items from each start on into k lines. Parts of
 // balanced breaking, behind its checks: no entry points.
+#![tactic(auto)]
+
 ghost use Rattle.std.specs.Prelude.{ℕ, ◌+◌, ◌-◌, ◌*◌, ◌≤◌, ◌<◌, length, get_or, ◌≡◌};
 ghost use Rattle.std.specs.Float.{binary64, nan};
 ghost use Rattle.std.specs.Float.Ieee.{mul};

@@ -1,5 +1,7 @@
 // The whole run: from the items' sizes, or their sums, to the balanced division's counts by line. A part of balanced
 // breaking, behind its checks: no entry point.
+#![tactic(auto)]
+
 ghost use Rattle.std.specs.Prelude.{◌≡◌, not, ℕ, ◌+◌, ◌*◌, ◌≤◌, ◌<◌, T, length, get_or};
 ghost use Rattle.std.specs.Float.Ieee.{is_nan};
 ghost use Rattle.std.specs.Float.{nan};

@@ -1,4 +1,6 @@
 // Cells and small numbers: what every stage of balanced breaking reads and writes with. No entry points.
+#![tactic(auto)]
+
 ghost use Rattle.std.specs.Prelude.{◌≡◌, ◌-◌, ◌<◌, length, get_or};
 
 pub mod sums; // sums.rt: sums of the items, and the sizes of lines from them

@@ -1,6 +1,8 @@
 // The tables that the rows are worked out from: where the longest line from each start ends, how many lines greedy
 // breaking makes of the items from each start on, and how far the first lines reach. Parts of balanced breaking, behind
 // its checks: no entry points.
+#![tactic(auto)]
+
 ghost use Rattle.std.specs.Prelude.{length, get_or, ◌≡◌, ◌+◌, ◌≤◌, ◌<◌};
 ghost use Rattle.balance_tables.specs.Tables.{fits_f, StretchOut, FitsOut, FitRange, CountsFrom, Rising, Reaches};
 

@@ -1,4 +1,6 @@
 // Breaking items into lines: what fits, and greedy breaking (document 01, "Breaking").
+#![tactic(auto)]
+
 ghost use Rattle.std.specs.Prelude.{◌≡◌, List, [], ◌≤◌, ◌<◌, length, ℤ};
 ghost use Rattle.grid.specs.Grid.{sixty_fourths};
 ghost use Rattle.grid.specs.Values.{At};

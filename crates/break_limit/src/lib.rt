@@ -1,4 +1,6 @@
 // The break limit (document 01, "Break limit"): the space that a line may take.
+#![tactic(auto)]
+
 ghost use Rattle.std.specs.Prelude.{◌≡◌, List};
 ghost use Rattle.checks.specs.Domain.{Number};
 ghost use Rattle.checks.specs.Marks.{least_of};

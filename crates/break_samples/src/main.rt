@@ -1,5 +1,7 @@
 // Boundary cases of the break limit and of greedy breaking, one to a line: what they are given, and number and place,
 // or lines and counts.
+#![tactic(auto)]
+
 use break_limit::{BreakLimit, Query};
 use checks::{Answer, Place, Refusal};
 use keywords::{AvailableSpace, Bound};

@@ -1,4 +1,6 @@
 // Captures (document 01, "Records for the program"): from the bytes, or the numbers that were read, to the answer.
+#![tactic(auto)]
+
 ghost use Rattle.std.specs.Prelude.{◌≡◌, ◌≤◌, length, take, ltb};
 ghost use Rattle.capture_format.specs.Reading.{reading, as_read};
 ghost use Rattle.capture_feed.specs.Machine.{finished};

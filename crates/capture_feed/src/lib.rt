@@ -1,4 +1,6 @@
 // Reading a capture byte by byte. What is kept between two bytes is a value, so a capture can come in bursts.
+#![tactic(auto)]
+
 ghost use Rattle.std.specs.Prelude.{◌≡◌, ◌+◌, ◌≤◌, ◌^◌, length};
 ghost use Rattle.capture_feed.specs.Machine.{with_sizes, advanced, kept, byte_fed, fed, started, finished};
 ghost use Rattle.capture_feed.specs.Machine.{ReaderReady};

@@ -1,5 +1,7 @@
 // The records of a capture (document 01, "Records for the program"): the one place that knows the format. `parse` asks
 // for a byte: no entry point.
+#![tactic(auto)]
+
 ghost use Rattle.std.specs.Prelude.{◌≡◌, ◌+◌, ◌≤◌, ◌<◌, length};
 ghost use Rattle.std.specs.Float.{binary32};
 ghost use Rattle.std.specs.Float.Ieee.{of_bits};

@@ -1,4 +1,6 @@
 // The program: a capture on standard input, its answer on standard output.
+#![tactic(auto)]
+
 ghost use Rattle.std.specs.Prelude.{◌≡◌, length};
 ghost use Rattle.capture_feed.specs.Machine.{ReaderReady};
 ghost use Rattle.capture_program.specs.Turned.{Turned};

@@ -1,5 +1,7 @@
 // Captures that reach every answer, each with its name: the bytes are written out, and the answer is as the program
 // prints it.
+#![tactic(auto)]
+
 ghost use Rattle.std.specs.Prelude.{◌≤◌};
 
 fn show(name: &[u8], bytes: &[u8]) {

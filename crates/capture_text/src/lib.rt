@@ -1,4 +1,6 @@
 // An answer as the program prints it.
+#![tactic(auto)]
+
 ghost use Rattle.std.specs.Prelude.{[], ◌∷◌, ◌+◌, ◌*◌, ◌≤◌, ◌<◌, length, take};
 ghost use Rattle.capture_text.specs.Text.{decimal_to, decimal, spaced, place_text, head_text, refusal_text};
 ghost use Rattle.capture_text.specs.Text.{reply_paper, title_text, lines_text, text_of};

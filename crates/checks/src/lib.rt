@@ -2,6 +2,8 @@
 // what a call answers. A call takes the marks of its numbers (crates `checks_number` and `checks_list`), keeps the
 // least, and has it judged once, before its first store. These are parts for calls of other crates to compose, and no
 // entry points.
+#![tactic(auto)]
+
 ghost use Rattle.std.specs.Prelude.{◌≡◌, min};
 ghost use Rattle.checks.specs.Domain.{shape, summed};
 ghost use Rattle.checks.specs.Marks.{as_answer, judged, place_of};

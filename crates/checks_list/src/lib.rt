@@ -1,6 +1,8 @@
 // Checks 3 to 5, and the sum of check 6, over whole lists of items' numbers (document 01, "Domain and refusal
 // numbers"). Parts for calls of other crates to compose, and no entry points: check 1 has been made, and check 2 of
 // lists that stand beside each other.
+#![tactic(auto)]
+
 ghost use Rattle.std.specs.Prelude.{◌≡◌, ◌+◌, ◌≤◌, eqb, length, get_or, nat_abs};
 ghost use Rattle.std.specs.Float.{nan};
 ghost use Rattle.grid.specs.Grid.{sixty_fourths};

@@ -1,5 +1,7 @@
 // The marks of single numbers, and one item more in the sum of check 6 (document 01, "Domain and refusal numbers").
 // Parts for calls of other crates to compose, and no entry points: a few ask what a check before them has shown.
+#![tactic(auto)]
+
 ghost use Rattle.std.specs.Prelude.{◌≡◌, ◌+◌, ◌≤◌, nat_abs};
 ghost use Rattle.checks.specs.declared.Kind.{Kind};
 ghost use Rattle.checks.specs.Domain.{off_grid, in_range, float, code};

@@ -1,5 +1,7 @@
 // The call that places the items of a line across it, for a host in C or C++ (include/fratolivem.h): the call inside
 // it, on any bits.
+#![tactic(auto)]
+
 ghost use Rattle.std.specs.Prelude.{◌≡◌};
 ghost use Rattle.place_size.specs.CrossSize.{cross_lists};
 ghost use Rattle.place_across_call.specs.AcrossCall.{across_call};

@@ -1,5 +1,7 @@
 // An answer as it crosses to C, where no enum does: number, place, lines and rounds, each a number (document 01,
 // "Domain and refusal numbers").
+#![tactic(auto)]
+
 ghost use Rattle.std.specs.Prelude.{◌≡◌};
 ghost use Rattle.checks.specs.Domain.{refused_as, where_of, refusal_of};
 ghost use Rattle.export_answer.specs.Crossing.{crossed, c_answer};

@@ -1,5 +1,7 @@
 // Greedy and balanced breaking, for a host in C or C++ (include/fratolivem.h). Enums do not cross, so kinds are codes
 // here, and a code that names nothing is refusal 5. Every call takes any bits; all else is inside.
+#![tactic(auto)]
+
 ghost use Rattle.export_break.specs.Breaks.{Crossed, greedy_from_c, BalancedFromC};
 ghost use Rattle.balance.specs.Calls.{break_lent};
 

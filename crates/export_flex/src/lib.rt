@@ -1,4 +1,6 @@
 // The calls that flex, for a host in C or C++ (include/fratolivem.h). Each is the call inside it, and takes any bits.
+#![tactic(auto)]
+
 ghost use Rattle.std.specs.Prelude.{◌≡◌};
 ghost use Rattle.flex.specs.Items.{lists};
 ghost use Rattle.flex_line_call.specs.Call.{values_of};

@@ -1,5 +1,7 @@
 // The break limit, for a host in C or C++ (include/fratolivem.h). Enums do not cross, so kinds are codes here, and a
 // code that names nothing is refusal 5. The call takes any bits; all else is inside.
+#![tactic(auto)]
+
 ghost use Rattle.std.specs.Prelude.{◌≡◌, Float};
 ghost use Rattle.break_limit.specs.Limit.{limit_from};
 ghost use Rattle.checks.specs.Marks.{least_of};

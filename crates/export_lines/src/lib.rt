@@ -1,5 +1,7 @@
 // The calls that size a line and place lines along the cross axis, for a host in C or C++ (include/fratolivem.h). Each
 // is the call inside it, and takes any bits.
+#![tactic(auto)]
+
 ghost use Rattle.std.specs.Prelude.{◌≡◌};
 ghost use Rattle.place_size.specs.CrossSize.{cross_lists};
 ghost use Rattle.place_size_call.specs.SizeCall.{size_call};

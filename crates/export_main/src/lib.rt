@@ -1,5 +1,7 @@
 // The call that places the items of a line along it, for a host in C or C++ (include/fratolivem.h): the call inside it,
 // on any bits.
+#![tactic(auto)]
+
 ghost use Rattle.std.specs.Prelude.{◌≡◌};
 ghost use Rattle.place_main.specs.MainAxis.{line_lists};
 ghost use Rattle.place_main.specs.MainCall.{main_call};

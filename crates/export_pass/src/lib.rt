@@ -1,4 +1,6 @@
 // The whole pass for a host in C or C++: its items are a slice of structs, its answer is a plain struct.
+#![tactic(auto)]
+
 ghost use Rattle.std.specs.Prelude.{length};
 ghost use Rattle.pass.specs.Laid.{pass_lent};
 ghost use Rattle.pass_items.specs.Items.{numbers_of, codes_of};

@@ -1,6 +1,8 @@
 // Flexible lengths, CSS-FLEX 9.7 (document 01, "Flexible lengths"): the definition, and every operation on numbers by
 // value: of one item, and of a line. proofs/ has the definition's laws: the rounds end, there is one answer and there
 // are answers, the sign of the free space, and sums that are whole sixty-fourths.
+#![tactic(auto)]
+
 pub mod sharing;
 pub mod sizes;
 

@@ -1,5 +1,7 @@
 // Checks 1 to 5 of a call that flexes: the lengths of its lists, and the numbers that it takes. For the calls: none is
 // an entry point.
+#![tactic(auto)]
+
 ghost use Rattle.std.specs.Prelude.{◌≡◌, [], ◌∷◌, ◌+◌, ◌≤◌, length};
 ghost use Rattle.checks.specs.Domain.{then};
 ghost use Rattle.checks.specs.Marks.{least_of, least_up_to, least_mark, judged};

@@ -1,5 +1,7 @@
 // The call that flexes one line, on any bits: checks 1 to 6, and then the parts of crate `flex_rounds` (document 01,
 // "Flexible lengths").
+#![tactic(auto)]
+
 ghost use Rattle.std.specs.Prelude.{◌*◌, ◌≤◌, length};
 ghost use Rattle.grid.specs.Grid.{cleaned};
 ghost use Rattle.grid.specs.Values.{Length};

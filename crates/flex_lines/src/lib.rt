@@ -1,5 +1,7 @@
 // The lines of a table one after another (document 01, "Flexible lengths"): each is flexed by its own items, and its
 // free space and rounds are listed by line. For calls that check what they take: none is an entry point.
+#![tactic(auto)]
+
 ghost use Rattle.std.specs.Prelude.{◌≡◌, ◌≤◌, ◌<◌, length};
 ghost use Rattle.flex_table.specs.Table.{item_in};
 ghost use Rattle.lists.specs.ByLine.{divides};

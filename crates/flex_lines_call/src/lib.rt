@@ -1,5 +1,7 @@
 // The call that flexes many lines, on any bits: checks 1 to 6, and then each line flexed by its own items (document 01,
 // "Flexible lengths").
+#![tactic(auto)]
+
 ghost use Rattle.std.specs.Prelude.{◌*◌, ◌≤◌, length};
 ghost use Rattle.grid.specs.Grid.{cleaned};
 ghost use Rattle.checks.specs.Domain.{summed};

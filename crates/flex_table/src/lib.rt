@@ -1,5 +1,7 @@
 // The items of a call in one table of numbers, eight cells for each item and one item after another, so that every step
 // of flexing takes one list. No entry points.
+#![tactic(auto)]
+
 ghost use Rattle.std.specs.Prelude.{◌≡◌, ◌+◌, ◌*◌, ◌<◌, cond, false, length};
 ghost use Rattle.std.specs.Float.{inf};
 ghost use Rattle.grid.specs.Grid.{cleaned};

@@ -1,5 +1,7 @@
 // The keywords that hosts hand in, as codes and as enums (document 01): spaces, bounds, wrapping and alignment.
 // Breaking and placing share them. No entry points: a call refuses a code that names nothing before it asks.
+#![tactic(auto)]
+
 ghost use Rattle.std.specs.Prelude.{◌≡◌};
 ghost use Rattle.keywords.specs.Space.{space_of, bound_of, raised_to, lowered_to, read_bound};
 ghost use Rattle.keywords.specs.Wrapping.{wrap_of, mode_of, is_single_line, is_reversed};

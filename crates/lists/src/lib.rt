@@ -1,5 +1,7 @@
 // Lent lists of cells: clearing a range, and copying. Breaking, flexing and the pass write with them. No entry points:
 // the cells are there.
+#![tactic(auto)]
+
 ghost use Rattle.std.specs.Prelude.{◌≡◌, ◌≤◌, ◌<◌, length, set, pos};
 ghost use Rattle.std.specs.Float.{binary64};
 ghost use Rattle.std.specs.Float.Ieee.{of_bits};

@@ -1,5 +1,7 @@
 // The whole pass on plain lists: breaking, flexing, the main axis and the cross axis of one container, each stage on
 // what the one before it answers. Stages are no entry points: they ask what the checks have shown.
+#![tactic(auto)]
+
 ghost use Rattle.pass.specs.Laid.{pass_lent, Laid};
 ghost use Rattle.pass.specs.Stages.{CrossAsked, CrossLaid, MainAsked, MainLaid, PassAccepted};
 ghost use Rattle.checks.specs.Domain.{summed};

@@ -1,5 +1,7 @@
 // Breaking as the whole pass does it, by the container's wrap mode (document 01, "Breaking"), of the items that the
 // table holds. The parts work on what the pass's checks have accepted: none is an entry point.
+#![tactic(auto)]
+
 ghost use Rattle.std.specs.Prelude.{◌≡◌, ◌++◌, ◌≤◌, length, drop};
 ghost use Rattle.balance.specs.Calls.{break_lent};
 ghost use Rattle.break_greedy.specs.Steps.{Breakable, Listed};

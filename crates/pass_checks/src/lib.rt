@@ -1,5 +1,7 @@
 // Checks 1 to 5 of the whole pass (document 01, "Domain and refusal numbers"): the lengths of its lists, and the
 // numbers that it takes.
+#![tactic(auto)]
+
 ghost use Rattle.std.specs.Prelude.{◌≡◌, ◌+◌, ◌*◌, ◌≤◌, length};
 ghost use Rattle.checks.specs.Domain.{shape, then};
 ghost use Rattle.checks.specs.Marks.{least_of, least_up_to, least_mark, judged};

@@ -1,4 +1,6 @@
 // The container of the whole pass, one struct by value, and the items' numbers in lists of n cells one after another.
+#![tactic(auto)]
+
 pub mod columns;
 
 // The container's gaps, sizes, limit and keywords travel as one value, to every stage. The codes are those of the

@@ -1,5 +1,7 @@
 // The cross axis in the whole pass: the lines along it, and the items across them, written to the lists that the pass
 // is lent. No entry points: the pass checks before it comes here.
+#![tactic(auto)]
+
 ghost use Rattle.std.specs.Prelude.{◌≡◌, ◌*◌, ◌≤◌, length};
 ghost use Rattle.pass_walk.specs.Sizes.{cross_sizes};
 ghost use Rattle.pass_container.specs.Columns.{cross_items};

@@ -1,6 +1,8 @@
 // The items as a host has them: a slice of structs, unpacked into the plain lists that the pass reads, one list of
 // numbers and one of codes, by columns. Whatever touches the slice itself is thin: the work on one item is done on an
 // item by value.
+#![tactic(auto)]
+
 ghost use Rattle.std.specs.Prelude.{◌≡◌, ◌++◌, ◌+◌, ◌*◌, ◌<◌, ◌≤◌, min, length, take, drop};
 ghost use Rattle.pass_items.specs.Items.{numbers_of, codes_of};
 ghost use Rattle.pass_items.specs.Parts.{numbers_in, codes_in, stored};

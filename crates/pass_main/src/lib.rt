@@ -1,5 +1,7 @@
 // The main axis of the whole pass: each line flexed, and its items spaced (document 01, "Flexible lengths" and "Main
 // axis").
+#![tactic(auto)]
+
 ghost use Rattle.std.specs.Prelude.{◌≡◌, ◌||◌, ◌*◌, ◌≤◌, eqb, length};
 ghost use Rattle.pass_main.specs.Stage.{MainStageReady, Run, MainStage};
 

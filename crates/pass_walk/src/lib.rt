@@ -1,5 +1,7 @@
 // Walks over the lines: the main axis, and the lines' cross sizes. Each line is lent its own parts of the lists;
 // `Past` of `lists` says what a walk leaves of a lent list. No entry points: the pass checks before it walks.
+#![tactic(auto)]
+
 ghost use Rattle.place_main.specs.MainAxis.{line_lists};
 ghost use Rattle.pass_walk.specs.Main.{MainLines};
 ghost use Rattle.pass_walk.specs.MainParts.{MainReady};

@@ -1,5 +1,7 @@
 // The items across their lines, line by line: each line is lent its own parts of the lists. No entry point: the pass
 // checks before it walks.
+#![tactic(auto)]
+
 ghost use Rattle.place_size.specs.CrossSize.{cross_lists};
 ghost use Rattle.pass_walk_across.specs.Cross.{AcrossLines};
 ghost use Rattle.pass_walk_across.specs.Parts.{AcrossReady};

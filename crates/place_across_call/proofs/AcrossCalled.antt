@@ -21,7 +21,7 @@ use Rattle.place_size.specs.Parts.{CrossOneLength}
 use Rattle.place_cross.specs.CrossAxis.{Across}
 use Rattle.place_cross.specs.Parts.{SameLengths, AcrossRoom}
 use Rattle.place_checks.specs.Numbers.{across_numbers_at}
-use Rattle.place_across_call.specs.AcrossCall.{across_input, lengths, across_verdict, AcrossResult, result, across_into, across_call}
+use Rattle.place_across_call.specs.AcrossCall.{across_input, lengths, across_verdict, AcrossResult, across_result, across_into, across_call}
 
 module _ (line : Float) (reversed : ℕ) (ls : CrossLists) (alignment auto-size : List ℕ) where
   pub across_checked : {x y a k m : ℕ} {v : Verdict} → SameLengths ls alignment auto-size → x ≡ mark (float Worked line) 0 → y ≡ mark (code 1 reversed) 0 → a ≡ min x y
@@ -57,10 +57,10 @@ module _ (line : Float) (reversed : ℕ) (ls : CrossLists) (alignment auto-size 
         )
 
     -- refused by its shape, or by its numbers
-    pub across_shape_refused : {v : Verdict} {why : Refusal} {r : Answer} → Shaped v → v ≡ Refused why → r ≡ as_answer v 0 0 → result r z s e o ≡ across_call line reversed ls alignment auto-size z s e o
+    pub across_shape_refused : {v : Verdict} {why : Refusal} {r : Answer} → Shaped v → v ≡ Refused why → r ≡ as_answer v 0 0 → across_result r z s e o ≡ across_call line reversed ls alignment auto-size z s e o
     unfolding across_verdict
     across_shape_refused p q a =
-        ap (λ (x : Answer). result x z s e o) (a ∙ ap (λ (x : Verdict). as_answer x 0 0) q)
+        ap (λ (x : Answer). across_result x z s e o) (a ∙ ap (λ (x : Verdict). as_answer x 0 0) q)
         ∙ sym (ap (λ (x : Verdict). across_into (then x (checked (across_input line reversed ls alignment auto-size) Passed)) line reversed ls alignment auto-size z s e o) (sym p ∙ q))
 
     module _ {v w : Verdict} (p : Shaped v) (p-passed : v ≡ Passed) (q : w ≡ checked (across_input line reversed ls alignment auto-size) Passed) where
@@ -68,17 +68,17 @@ module _ (line : Float) (reversed : ℕ) (ls : CrossLists) (alignment auto-size 
       unfolding across_verdict
       verdict_is = ap (λ (x : Verdict). then x (checked (across_input line reversed ls alignment auto-size) Passed)) (sym p ∙ p-passed) ∙ sym q
 
-      pub across_numbers_refused : {why : Refusal} {r : Answer} → w ≡ Refused why → r ≡ as_answer w 0 0 → result r z s e o ≡ across_call line reversed ls alignment auto-size z s e o
+      pub across_numbers_refused : {why : Refusal} {r : Answer} → w ≡ Refused why → r ≡ as_answer w 0 0 → across_result r z s e o ≡ across_call line reversed ls alignment auto-size z s e o
       across_numbers_refused h a =
-          ap (λ (x : Answer). result x z s e o) (a ∙ ap (λ (x : Verdict). as_answer x 0 0) h)
+          ap (λ (x : Answer). across_result x z s e o) (a ∙ ap (λ (x : Verdict). as_answer x 0 0) h)
           ∙ sym (ap (λ (x : Verdict). across_into x line reversed ls alignment auto-size z s e o) (verdict_is ∙ h))
 
-      pub across_placed : {z₁ s₁ e₁ o₁ : List Float} → w ≡ Passed → Across line (not (eqb reversed 0)) ls alignment auto-size z s e o z₁ s₁ e₁ o₁ → result (Done 0 0) z₁ s₁ e₁ o₁ ≡ across_call line reversed ls alignment auto-size z s e o
+      pub across_placed : {z₁ s₁ e₁ o₁ : List Float} → w ≡ Passed → Across line (not (eqb reversed 0)) ls alignment auto-size z s e o z₁ s₁ e₁ o₁ → across_result (Done 0 0) z₁ s₁ e₁ o₁ ≡ across_call line reversed ls alignment auto-size z s e o
       across_placed h t =
           same t.sizes_are t.starts_are t.ends_are t.offsets_are
           ∙ sym (ap (λ (x : Verdict). across_into x line reversed ls alignment auto-size z s e o) (verdict_is ∙ h))
         where
-          same : {a b c d w x y z : List Float} → a ≡ w → b ≡ x → c ≡ y → d ≡ z → result (Done 0 0) a b c d ≡ result (Done 0 0) w x y z
+          same : {a b c d w x y z : List Float} → a ≡ w → b ≡ x → c ≡ y → d ≡ z → across_result (Done 0 0) a b c d ≡ across_result (Done 0 0) w x y z
           same f g h k = rw (f, g, h, k)
 
     -- the contract leaves no choice

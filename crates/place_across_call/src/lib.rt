@@ -1,11 +1,13 @@
 // The call for the items of one line across it, on any bits.
+#![tactic(auto)]
+
 ghost use Rattle.std.specs.Prelude.{◌≡◌, [], ◌∷◌};
 ghost use Rattle.checks.specs.Domain.{checked};
 ghost use Rattle.checks.specs.declared.Verdict.TheVariants.{Passed};
 ghost use Rattle.checks.specs.Shapes.{shape_of};
 ghost use Rattle.place_size.specs.CrossSize.{cross_lists};
 ghost use Rattle.place_cross.specs.Parts.{SameLengths};
-ghost use Rattle.place_across_call.specs.AcrossCall.{across_input, result, across_call};
+ghost use Rattle.place_across_call.specs.AcrossCall.{across_input, across_result, across_call};
 
 use checks::shapes::{has_room, is_alike};
 use checks::{Answer, Kind, Verdict, judge, least};
@@ -32,8 +34,8 @@ fn check_across_shape(
     used_end: usize,
     offsets: usize,
 ) -> Verdict
-    ensures* { λ r. ⌜ r ≡ shape_of (measured ∷ minimum ∷ maximum ∷ capped ∷ edges ∷ start ∷ end ∷ auto_start ∷
-        auto_end ∷ alignment ∷ auto_size ∷ []) (sizes ∷ used_start ∷ used_end ∷ offsets ∷ []) measured ⌝ }
+    ensures { result ≡ shape_of (measured ∷ minimum ∷ maximum ∷ capped ∷ edges ∷ start ∷ end ∷ auto_start ∷
+        auto_end ∷ alignment ∷ auto_size ∷ []) (sizes ∷ used_start ∷ used_end ∷ offsets ∷ []) measured }
 {
     let longest = lengths::longest_list(
         measured,
@@ -84,10 +86,10 @@ fn check_across_numbers<'a>(
 ) -> Verdict
     requires { SameLengths (cross_lists measured.now minimum.now maximum.now capped.now edges.now start.now
         end.now auto_start.now auto_end.now) alignment.now auto_size.now }
-    ensures* { λ r. ⌜ r ≡ checked (across_input line reversed (cross_lists measured.now minimum.now
+    ensures { result ≡ checked (across_input line reversed (cross_lists measured.now minimum.now
         maximum.now capped.now edges.now start.now end.now
         auto_start.now auto_end.now) alignment.now auto_size.now)
-        Passed ⌝ }
+        Passed }
 {
     let container = least(mark_float(Kind::Worked, line, 0), mark_code(1, reversed, 0));
     let items = marks::mark_across(
@@ -117,11 +119,11 @@ pub fn place_across<'a>(
     used_end: &mut [f32],
     offsets: &mut [f32],
 ) -> Answer
-    ensures* { λ r. ⌜ result r sizes.new used_start.new used_end.new
+    ensures { across_result result sizes.new used_start.new used_end.new
         offsets.new ≡ across_call line reversed (cross_lists measured.now minimum.now
         maximum.now capped.now edges.now start.now end.now
         auto_start.now auto_end.now) alignment.now auto_size.now
-        sizes.old used_start.old used_end.old offsets.old ⌝ }
+        sizes.old used_start.old used_end.old offsets.old }
 {
     let shape = check_across_shape(
         measured.len(),

@@ -1,6 +1,8 @@
 // Alignment on either axis (document 01, "Main axis"; CSS-ALIGN 4 and 5): the fallback, and the step before the first
 // item and before each later one. Parts of the placing calls, and no entry points: a few ask that a count is small,
 // which check 1 shows.
+#![tactic(auto)]
+
 ghost use Rattle.std.specs.Prelude.{◌≡◌, ◌≤◌, ◌<◌};
 ghost use Rattle.place_align.specs.Align.{fallback_of, fallback, made_safe, positioned, first_offset, later_offset};
 ghost use Rattle.place_align.specs.Align.{self_offset};

@@ -20,7 +20,7 @@ use Rattle.place_cross.specs.Lines.{Aligned}
 use Rattle.checks.specs.Shapes.{shape_of}
 use Rattle.checks.specs.Lists.{float_at}
 use Rattle.place_checks.specs.Numbers.{cross_of, cross_numbers}
-use Rattle.place_lines_call.specs.LinesCall.{cross_lines_input, cross_lines_verdict, LinesResult, result, lines_into, lines_call}
+use Rattle.place_lines_call.specs.LinesCall.{cross_lines_input, cross_lines_verdict, LinesResult, lines_result, lines_into, lines_call}
 use Rattle.checks.proofs.Marked.{judged_is, shaped}
 
 module _ (c : CrossNumbers) (alignment : ℕ) (lines : List Float) where
@@ -36,7 +36,7 @@ module _ (c : CrossNumbers) (alignment : ℕ) (lines : List Float) where
     pub lines_room : shape_of (length lines ∷ []) (length s ∷ length o ∷ []) (length lines) ≡ Passed → (length lines ≤ length s) × (length lines ≤ length o) × (length lines ≤ 1024)
     lines_room p = let q = shaped (length lines) [] rooms p in (q.2.0, q.2.1.0, q.0)
 
-    pub lines_shape_refused : {v : Verdict} {why : Refusal} → v ≡ shape_of (length lines ∷ []) (length s ∷ length o ∷ []) (length lines) → v ≡ verdict.Refused why → result (Refused why) s o ≡ lines_call c alignment lines s o
+    pub lines_shape_refused : {v : Verdict} {why : Refusal} → v ≡ shape_of (length lines ∷ []) (length s ∷ length o ∷ []) (length lines) → v ≡ verdict.Refused why → lines_result (Refused why) s o ≡ lines_call c alignment lines s o
     unfolding cross_lines_verdict
     lines_shape_refused p q = sym (ap (λ (x : Verdict). lines_into (then x (checked (cross_lines_input c alignment lines) Passed)) c alignment lines s o) (sym p ∙ q))
 
@@ -45,15 +45,15 @@ module _ (c : CrossNumbers) (alignment : ℕ) (lines : List Float) where
       unfolding cross_lines_verdict
       verdict_is = ap (λ (x : Verdict). then x (checked (cross_lines_input c alignment lines) Passed)) (sym p ∙ p-passed) ∙ sym q
 
-      pub lines_numbers_refused : {why : Refusal} → w ≡ verdict.Refused why → result (Refused why) s o ≡ lines_call c alignment lines s o
+      pub lines_numbers_refused : {why : Refusal} → w ≡ verdict.Refused why → lines_result (Refused why) s o ≡ lines_call c alignment lines s o
       lines_numbers_refused h = sym (ap (λ (x : Verdict). lines_into x c alignment lines s o) (verdict_is ∙ h))
 
-      pub lines_placed : {k : Cross} {a : ContentAlignment} {inner : Float} {s₁ o₁ : List Float} → w ≡ Passed → k ≡ cross_of c → a ≡ content_of alignment → Aligned k a lines s o inner s₁ o₁ → result (Placed inner) s₁ o₁ ≡ lines_call c alignment lines s o
+      pub lines_placed : {k : Cross} {a : ContentAlignment} {inner : Float} {s₁ o₁ : List Float} → w ≡ Passed → k ≡ cross_of c → a ≡ content_of alignment → Aligned k a lines s o inner s₁ o₁ → lines_result (Placed inner) s₁ o₁ ≡ lines_call c alignment lines s o
       lines_placed {k} {a} {inner} {s₁} {o₁} h e f t =
           let u = subst (λ (x : ContentAlignment). Aligned (cross_of c) x lines s o inner s₁ o₁) f (subst (λ (x : Cross). Aligned x a lines s o inner s₁ o₁) e t) in
           same u.inner_is u.sizes_are u.offsets_are ∙ sym (ap (λ (x : Verdict). lines_into x c alignment lines s o) (verdict_is ∙ h))
         where
-          same : {x y : Float} {a b d f : List Float} → x ≡ y → a ≡ b → d ≡ f → result (Placed x) a d ≡ result (Placed y) b f
+          same : {x y : Float} {a b d f : List Float} → x ≡ y → a ≡ b → d ≡ f → lines_result (Placed x) a d ≡ lines_result (Placed y) b f
           same g h k = rw (g, h, k)
 
     -- the contract leaves no choice

@@ -34,17 +34,17 @@ pub record LinesResult : Type 0 where
   pub sizes : List Float
   pub offsets : List Float
 
-abbrev pub result : LinesAnswer → List Float → List Float → LinesResult
-result r s o = record { answer = r; sizes = s; offsets = o }
+abbrev pub lines_result : LinesAnswer → List Float → List Float → LinesResult
+lines_result r s o = record { answer = r; sizes = s; offsets = o }
 
 -- what the lines of a container come to
 abbrev pub along : Cross → ℕ → List Float → List Float → List Float → LinesResult
-along c alignment lines s o = let a = content_of alignment in result (Placed (inner_cross c a lines))
+along c alignment lines s o = let a = content_of alignment in lines_result (Placed (inner_cross c a lines))
     (line_sizes c a lines s) (line_offsets c a lines o)
 
 -- a refusal changes no cell
 abbrev pub lines_into : Verdict → CrossNumbers → ℕ → List Float → List Float → List Float → LinesResult
-lines_into (verdict.Refused why) c alignment lines s o = result (Refused why) s o
+lines_into (verdict.Refused why) c alignment lines s o = lines_result (Refused why) s o
 lines_into Passed c alignment lines s o = along (read_cross (cross_of c)) alignment lines s o
 
 -- THE CALL ("Cross axis"): it refuses by checks 1 to 5 and changes nothing, or it answers with the inner cross size and

@@ -1,9 +1,11 @@
 // The call for a container's lines along the cross axis, on any bits.
+#![tactic(auto)]
+
 ghost use Rattle.std.specs.Prelude.{◌≡◌, [], ◌∷◌, ◌≤◌, length};
 ghost use Rattle.checks.specs.Domain.{checked};
 ghost use Rattle.checks.specs.declared.Verdict.TheVariants.{Passed};
 ghost use Rattle.checks.specs.Shapes.{shape_of};
-ghost use Rattle.place_lines_call.specs.LinesCall.{cross_lines_input, result, lines_call};
+ghost use Rattle.place_lines_call.specs.LinesCall.{cross_lines_input, lines_result, lines_call};
 
 use checks::shapes::{has_room, is_alike};
 use checks::{Kind, Refusal, Verdict, judge, least};
@@ -22,7 +24,7 @@ pub enum LinesAnswer {
 
 // Checks 1 and 2.
 fn check_lines_shape(n: usize, sizes: usize, offsets: usize) -> Verdict
-    ensures* { λ r. ⌜ r ≡ shape_of (n ∷ []) (sizes ∷ offsets ∷ []) n ⌝ }
+    ensures { result ≡ shape_of (n ∷ []) (sizes ∷ offsets ∷ []) n }
 {
     checks::check_shape(
         larger(n, 0),
@@ -33,7 +35,7 @@ fn check_lines_shape(n: usize, sizes: usize, offsets: usize) -> Verdict
 // Checks 3 to 5.
 fn check_lines_numbers(c: CrossNumbers, alignment: u32, lines: &[f32]) -> Verdict
     requires { length lines.now ≤ 1024 }
-    ensures* { λ r. ⌜ r ≡ checked (cross_lines_input c alignment lines.now) Passed ⌝ }
+    ensures { result ≡ checked (cross_lines_input c alignment lines.now) Passed }
 {
     let container = least(mark_code(13, alignment, 0), mark_cross(c));
     judge(least(container, mark_list(Kind::Worked, lines)))
@@ -46,8 +48,8 @@ pub fn place_lines(
     sizes: &mut [f32],
     offsets: &mut [f32],
 ) -> LinesAnswer
-    ensures* { λ r. ⌜ result r sizes.new offsets.new
-        ≡ lines_call c alignment lines.now sizes.old offsets.old ⌝ }
+    ensures { lines_result result sizes.new offsets.new
+        ≡ lines_call c alignment lines.now sizes.old offsets.old }
 {
     let shape = check_lines_shape(lines.len(), sizes.len(), offsets.len());
     match shape {

@@ -20,7 +20,7 @@ use Rattle.place_main.specs.Parts.{MainOneLength}
 use Rattle.checks.specs.declared.Kind.TheVariants.{Margin, Worked}
 use Rattle.checks.specs.Shapes.{shape_of}
 use Rattle.checks.specs.Lists.{float_at, beside_at}
-use Rattle.place_main.specs.MainCall.{main_container_numbers, main_input, lengths, main_verdict, MainResult, result, main_into, main_call}
+use Rattle.place_main.specs.MainCall.{main_container_numbers, main_input, lengths, main_verdict, MainResult, main_result, main_into, main_call}
 use Rattle.checks.proofs.Marked.{items_append, judged_is, shaped}
 
 pub content_same : {inner gap : Float} {a b : ContentAlignment} {reversed : Bool} {l : LineLists} {o s e o₁ s₁ e₁ : List Float} → a ≡ b → Spaced inner gap a reversed l o s e o₁ s₁ e₁ → Spaced inner gap b reversed l o s e o₁ s₁ e₁
@@ -55,10 +55,10 @@ module _ (inner gap : Float) (justify reversed : ℕ) (l : LineLists) where
 
     -- refused by its shape, or by its numbers
     pub main_shape_refused : {v : Verdict} {why : Refusal} {r : Answer} → v ≡ shape_of (lengths l) (length o ∷ length s ∷ length e ∷ []) (count l) → v ≡ Refused why → r ≡ as_answer v 0 0
-        → result r o s e ≡ main_call inner gap justify reversed l o s e
+        → main_result r o s e ≡ main_call inner gap justify reversed l o s e
     unfolding main_verdict
     main_shape_refused p q a =
-        ap (λ (x : Answer). result x o s e) (a ∙ ap (λ (x : Verdict). as_answer x 0 0) q)
+        ap (λ (x : Answer). main_result x o s e) (a ∙ ap (λ (x : Verdict). as_answer x 0 0) q)
         ∙ sym (ap (λ (x : Verdict). main_into (then x (checked (main_input inner gap justify reversed l) Passed)) inner gap justify reversed l o s e) (sym p ∙ q))
 
     module _ {v w : Verdict} (p : v ≡ shape_of (lengths l) (length o ∷ length s ∷ length e ∷ []) (count l)) (p-passed : v ≡ Passed) (q : w ≡ checked (main_input inner gap justify reversed l) Passed) where
@@ -66,15 +66,15 @@ module _ (inner gap : Float) (justify reversed : ℕ) (l : LineLists) where
       unfolding main_verdict
       verdict_is = ap (λ (x : Verdict). then x (checked (main_input inner gap justify reversed l) Passed)) (sym p ∙ p-passed) ∙ sym q
 
-      pub main_numbers_refused : {why : Refusal} {r : Answer} → w ≡ Refused why → r ≡ as_answer w 0 0 → result r o s e ≡ main_call inner gap justify reversed l o s e
+      pub main_numbers_refused : {why : Refusal} {r : Answer} → w ≡ Refused why → r ≡ as_answer w 0 0 → main_result r o s e ≡ main_call inner gap justify reversed l o s e
       main_numbers_refused h a =
-          ap (λ (x : Answer). result x o s e) (a ∙ ap (λ (x : Verdict). as_answer x 0 0) h)
+          ap (λ (x : Answer). main_result x o s e) (a ∙ ap (λ (x : Verdict). as_answer x 0 0) h)
           ∙ sym (ap (λ (x : Verdict). main_into x inner gap justify reversed l o s e) (verdict_is ∙ h))
 
-      pub main_placed : {o₁ s₁ e₁ : List Float} → w ≡ Passed → Spaced inner gap (content_of justify) (not (eqb reversed 0)) l o s e o₁ s₁ e₁ → result (Done 0 0) o₁ s₁ e₁ ≡ main_call inner gap justify reversed l o s e
+      pub main_placed : {o₁ s₁ e₁ : List Float} → w ≡ Passed → Spaced inner gap (content_of justify) (not (eqb reversed 0)) l o s e o₁ s₁ e₁ → main_result (Done 0 0) o₁ s₁ e₁ ≡ main_call inner gap justify reversed l o s e
       main_placed h t = cc_result t.offsets_are t.starts_are t.ends_are ∙ sym (ap (λ (x : Verdict). main_into x inner gap justify reversed l o s e) (verdict_is ∙ h))
         where
-          cc_result : {a b c x y z : List Float} → a ≡ x → b ≡ y → c ≡ z → result (Done 0 0) a b c ≡ result (Done 0 0) x y z
+          cc_result : {a b c x y z : List Float} → a ≡ x → b ≡ y → c ≡ z → main_result (Done 0 0) a b c ≡ main_result (Done 0 0) x y z
           cc_result f g k = rw (f, g, k)
 
     -- the contract leaves no choice

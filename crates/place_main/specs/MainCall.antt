@@ -42,14 +42,14 @@ pub record MainResult : Type 0 where
   pub starts : List Float
   pub ends : List Float
 
-abbrev pub result : Answer → List Float → List Float → List Float → MainResult
-result r o s e = record { answer = r; offsets = o; starts = s; ends = e }
+abbrev pub main_result : Answer → List Float → List Float → List Float → MainResult
+main_result r o s e = record { answer = r; offsets = o; starts = s; ends = e }
 
 -- a refusal changes no cell; the call works out no lines and no rounds
 abbrev pub main_into : Verdict → Float → Float → ℕ → ℕ → LineLists → List Float → List Float → List Float → MainResult
-main_into (verdict.Refused why) inner gap justify reversed l o s e = result (answer.Refused why) o s e
+main_into (verdict.Refused why) inner gap justify reversed l o s e = main_result (answer.Refused why) o s e
 main_into Passed inner gap justify reversed l o s e =
-    result (Done 0 0) (placed_offsets inner gap (content_of justify) (not (eqb reversed 0)) l o)
+    main_result (Done 0 0) (placed_offsets inner gap (content_of justify) (not (eqb reversed 0)) l o)
     (used_margins inner gap l l.auto_start l.start s) (used_margins inner gap l l.auto_end l.end e)
 
 -- THE CALL ("Main axis"): it refuses by checks 1 to 5 and changes nothing, or it leaves the items' offsets and used

@@ -6,7 +6,7 @@ ghost use Rattle.checks.specs.declared.Verdict.TheVariants.{Passed};
 ghost use Rattle.place_main.specs.MainAxis.{line_lists};
 ghost use Rattle.place_main.specs.Parts.{MainOneLength};
 ghost use Rattle.checks.specs.Shapes.{shape_of};
-ghost use Rattle.place_main.specs.MainCall.{main_container_numbers, main_input, result, main_call};
+ghost use Rattle.place_main.specs.MainCall.{main_container_numbers, main_input, main_result, main_call};
 
 use crate::main_axis;
 use checks::shapes::{has_room, is_alike};
@@ -26,8 +26,8 @@ fn check_main_shape(
     used_start: usize,
     used_end: usize,
 ) -> Verdict
-    ensures* { λ r. ⌜ r ≡ shape_of (n ∷ start ∷ end ∷ auto_start ∷ auto_end ∷ [])
-        (offsets ∷ used_start ∷ used_end ∷ []) n ⌝ }
+    ensures { result ≡ shape_of (n ∷ start ∷ end ∷ auto_start ∷ auto_end ∷ [])
+        (offsets ∷ used_start ∷ used_end ∷ []) n }
 {
     let longest = larger(
         n,
@@ -53,7 +53,7 @@ fn check_main_shape(
 }
 
 fn mark_main_container(inner: f32, gap: f32, justify: u32, reversed: u32) -> Mark
-    ensures* { λ r. ⌜ r.0 ≡ least_of (main_container_numbers inner gap justify reversed) 0 ⌝ }
+    ensures { result.0 ≡ least_of (main_container_numbers inner gap justify reversed) 0 }
 {
     let lengths = least(
         mark_float(Kind::Size, inner, 0),
@@ -76,9 +76,9 @@ fn check_main_numbers<'a>(
     auto_end: &'a [u32],
 ) -> Verdict
     requires { MainOneLength (line_lists targets.now start.now end.now auto_start.now auto_end.now) }
-    ensures* { λ r. ⌜ r ≡ checked (main_input inner gap justify reversed
+    ensures { result ≡ checked (main_input inner gap justify reversed
         (line_lists targets.now start.now end.now auto_start.now
-        auto_end.now)) Passed ⌝ }
+        auto_end.now)) Passed }
 {
     let container = mark_main_container(inner, gap, justify, reversed);
     let margins = least(
@@ -102,10 +102,10 @@ pub fn place_main<'a>(
     used_start: &mut [f32],
     used_end: &mut [f32],
 ) -> Answer
-    ensures* { λ r. ⌜ result r offsets.new used_start.new used_end.new
+    ensures { main_result result offsets.new used_start.new used_end.new
         ≡ main_call inner gap justify reversed (line_lists targets.now start.now end.now
         auto_start.now auto_end.now) offsets.old used_start.old
-        used_end.old ⌝ }
+        used_end.old }
 {
     let shape = check_main_shape(
         targets.len(),

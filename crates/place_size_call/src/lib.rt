@@ -1,4 +1,6 @@
 // The call for the cross size of one line, on any bits.
+#![tactic(auto)]
+
 ghost use Rattle.std.specs.Prelude.{◌≡◌, [], ◌∷◌};
 ghost use Rattle.checks.specs.Domain.{checked};
 ghost use Rattle.checks.specs.declared.Verdict.TheVariants.{Passed};
