@@ -1,7 +1,7 @@
 -- The cells of greedy breaking, on plain values: what the loop of `greedy_counts` keeps, its start, turn and end.
 -- The counts of the lines so far are followed by those of the lines to come. Assumes nothing.
 use mathlib.Core.Path.{◌≡◌, refl, sym, ap, ap₂, ◌∙◌}
-use mathlib.Core.List.{List, [], ◌∷◌, ◌++◌, append_nil, append_assoc}
+use mathlib.Core.List.{List, [], ◌∷◌, ◌++◌, append-nil, append_assoc}
 use Prim.Native.Nat.{ℕ, suc, ◌+◌, ◌-◌, ◌≤◌, ◌<◌, zero-le}
 use native.Mathlib.Nat.{le_refl, le-suc, add-sub_of_le}
 use native.Mathlib.Numerals.{add-one}
@@ -83,7 +83,7 @@ module _ (limit : Limit) (gap : ℤ) (l : List ℤ) (passed : List ℕ) (room : 
   pub finish : (counts : List ℕ) (start n : ℕ) → Inv limit gap l passed counts start n → length l ≤ start → Counted (greedy limit gap l) passed n counts
   finish counts start n inv h =
       let w : take n counts ≡ greedy limit gap l =
-      sym (append_nil (take n counts)) ∙ ap (λ (t : List ℕ). take n counts ++ t) (sym (ap (greedy limit gap) (drop_of_length-le l h) ∙ greedy-none limit gap)) ∙ inv.front in
+      sym (append-nil (take n counts)) ∙ ap (λ (t : List ℕ). take n counts ++ t) (sym (ap (greedy limit gap) (drop_of_length-le l h) ∙ greedy-none limit gap)) ∙ inv.front in
       let f = inv.fewer in
       let j = inv.inside in
       record {

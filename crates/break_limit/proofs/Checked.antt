@@ -1,6 +1,6 @@
 -- The checks of a break limit: the least of the marks that the call takes is document 01's order of checks on its input. Assumes nothing.
 use mathlib.Core.Path.{◌≡◌, sym, ap, ◌∙◌}
-use mathlib.Core.List.{List, [], ◌++◌, append_nil}
+use mathlib.Core.List.{List, [], ◌++◌, append-nil}
 use Prim.Native.Nat.{ℕ, min, zero-le}
 use Rattle.checks.specs.declared.Verdict.TheVariants.{Passed}
 use Rattle.checks.specs.Domain.{Number}
@@ -12,7 +12,7 @@ use Rattle.break_limit.specs.Limit.{space_numbers, bound_numbers, limit_input, l
 
 none_more : (l : List Number) → least_of l 0 ≡ min (least_of l 0) 6144
 unfolding least_of
-none_more l = ap (λ (t : List Number). least_of t 0) (sym (append_nil l)) ∙ least_append l [] 0
+none_more l = ap (λ (t : List Number). least_of t 0) (sym (append-nil l)) ∙ least_append l [] 0
 
 -- the mark of a query
 abbrev pub query_mark : Query → ℕ

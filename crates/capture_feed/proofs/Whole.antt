@@ -1,7 +1,7 @@
 -- Started, fed with a whole capture and finished, a reader says what `reading` says of its bytes, the head as it was written. Assumes nothing.
 use mathlib.Core.Path.{◌≡◌, refl, sym, ◌∙◌, ap}
 use mathlib.Core.Logic.{inl, inr}
-use mathlib.Core.List.{List, [], ◌∷◌, append_nil}
+use mathlib.Core.List.{List, [], ◌∷◌, append-nil}
 use Prim.Native.Nat.{ℕ, ◌+◌, ◌≤◌, ◌^◌}
 use native.Mathlib.Nat.{add-zero, zero-add}
 use native.Mathlib.Omega.{arith}
@@ -73,7 +73,7 @@ at_ended : (place : ℕ) (p : List ℕ) (h : Head) (n : ℕ) (room : List Float)
     → coming stage.Ended place p h n (take n room) ≡ resume.known h n (take n room)
 unfolding coming ending
 at_ended place p h n room full (inl e) =
-    rw (none p e, add-zero, append_nil)
+    rw (none p e, add-zero, append-nil)
     (ap (resume.known h n) (take_all 64 (take n room) (omega (arith, length-take n room))))
 at_ended place p h n room full (inr e) = let z : ◌≡◌ {A = ℕ} 0 1 = cc in absurd (omega arith)
 
@@ -89,7 +89,7 @@ pub ends : (fd : Fed) → SoundReader fd.reader → length fd.sizes ≡ 64 → r
 unfolding resume
 ends fd sound full =
     let r = fd.reader in
-    rw append_nil (by_stage_lem r.stage r (take r.have r.pending) fd.sizes full (begun_of r sound))
+    rw append-nil (by_stage_lem r.stage r (take r.have r.pending) fd.sizes full (begun_of r sound))
 
 -- ---- the whole way
 
@@ -100,4 +100,4 @@ said room l full long =
     let ready : ReaderReady started (length l + 0) = record { sound = started_sound; room = omega arith } in
     let ready' : ReaderReady started (length l) = record { sound = started_sound; room = omega arith } in
     sym (ends (fed fd l) (fed_ready l 0 fd ready).sound (fed_room l fd ∙ full))
-    ∙ (fed_resumes l [] fd ready' full ∙ (rw append_nil (starts room l)))
+    ∙ (fed_resumes l [] fd ready' full ∙ (rw append-nil (starts room l)))

@@ -1,7 +1,7 @@
 -- Text that is put after text, and how long a number is. Assumes nothing.
 use mathlib.Core.Path.{◌≡◌, refl, sym, ◌∙◌, ap, subst}
 use mathlib.Core.Bool.{Bool, true, false, cond}
-use mathlib.Core.List.{List, [], ◌∷◌, ◌++◌, append_assoc, append_nil}
+use mathlib.Core.List.{List, [], ◌∷◌, ◌++◌, append_assoc, append-nil}
 use Prim.Native.Nat.{ℕ, zero, suc, ◌+◌, ◌-◌, ◌*◌, ◌/◌, ◌%◌, ◌<◌, ◌≤◌}
 use native.Mathlib.Omega.{arith}
 use native.Mathlib.Numerals.{add-one}
@@ -18,7 +18,7 @@ use Rattle.capture_text.specs.Parts.{Put}
 use Rattle.capture_text.specs.declared.Reply.TheVariants.{Lines}
 
 pub put_none : {before : List ℕ} {at : ℕ} → Put [] before before at at
-put_none {before} {at} = record { past = sym (add-zero at); front = sym (append_nil (take at before)); as_long = refl }
+put_none {before} {at} = record { past = sym (add-zero at); front = sym (append-nil (take at before)); as_long = refl }
 
 pub put_one : {before : List ℕ} {at : ℕ} (b : ℕ) → at < length before → Put (b ∷ []) before (set before at b) at (at + 1)
 put_one {before} {at} b h =
@@ -93,7 +93,7 @@ number_more k n {before} {after = after} {at} {r = r} h z p q = subst (λ (l : L
 -- ---- the counts
 
 spaced_snoc : (l : List ℕ) (n : ℕ) → spaced (l ++ (n ∷ [])) ≡ spaced l ++ (32 ∷ decimal n)
-spaced_snoc [] n = append_nil (32 ∷ decimal n)
+spaced_snoc [] n = append-nil (32 ∷ decimal n)
 spaced_snoc (m ∷ l) n = ap (λ (t : List ℕ). (32 ∷ decimal m) ++ t) (spaced_snoc l n) ∙ sym (append_assoc (32 ∷ decimal m) (spaced l) (32 ∷ decimal n))
 
 -- i of the counts are put, in at most 21 bytes each

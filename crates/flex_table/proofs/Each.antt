@@ -1,7 +1,7 @@
 -- What a loop over the items keeps: a sum so far, and the cells rewritten so far. Assumes nothing.
 use mathlib.Core.Path.{◌≡◌, refl, sym, ap, ap₂, ◌∙◌}
 use mathlib.Core.Bool.{Bool, true, false, cond}
-use mathlib.Core.List.{List, [], ◌∷◌, ◌++◌, append_nil}
+use mathlib.Core.List.{List, [], ◌∷◌, ◌++◌, append-nil}
 use Prim.Native.Nat.{ℕ, ◌+◌, ◌≤◌, ◌<◌, zero-le}
 use native.Mathlib.Nat.{le_refl, le_of_lt, lt_of_lt_of_le, ne_of_lt, ne_of_gt}
 use native.Mathlib.Numerals.{add-one, lt-add-one}
@@ -62,7 +62,7 @@ left-sum f c n s h =
     ∙ ap (λ (l : List Cell). total f l) (sym (left_next c n))
   where
     go : (b : Bool) → cond b (total f (left (each n c))) (total f (left (each n c)) ⊕ f (c n)) ≡ total f (left (each n c) ++ cond b [] (c n ∷ []))
-    go true = ap (λ (l : List Cell). total f l) (sym (append_nil (left (each n c))))
+    go true = ap (λ (l : List Cell). total f l) (sym (append-nil (left (each n c))))
     go false = sym (sum_snoc nought f (left (each n c)) (c n))
 
 pub unfrozen-none : (c : ℕ → Cell) → unfrozen (each 0 c) ≡ 0
@@ -76,7 +76,7 @@ unfrozen_next c n k h =
     ∙ ap (λ (l : List Cell). length l) (sym (left_next c n))
   where
     go : (b : Bool) → cond b (unfrozen (each n c)) (unfrozen (each n c) + 1) ≡ length (left (each n c) ++ cond b [] (c n ∷ []))
-    go true = ap (λ (l : List Cell). length l) (sym (append_nil (left (each n c))))
+    go true = ap (λ (l : List Cell). length l) (sym (append-nil (left (each n c))))
     go false = sym (length-append (left (each n c)) (c n ∷ []))
 
 -- ---- the sum of check 6

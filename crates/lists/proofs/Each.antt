@@ -1,7 +1,7 @@
 -- Lists that are made cell by cell, `each n f`, and lent cells that a loop writes from the front. Assumes nothing.
 use mathlib.Core.Path.{◌≡◌, refl, sym, ap, ap₂, ◌∙◌, subst}
 use mathlib.Core.Logic.{◌⊎◌, inl, inr}
-use mathlib.Core.List.{List, [], ◌∷◌, ◌++◌, map, append_nil, append_assoc}
+use mathlib.Core.List.{List, [], ◌∷◌, ◌++◌, map, append-nil, append_assoc}
 use Prim.Native.Nat.{ℕ, zero, suc, ◌+◌, ◌≤◌, ◌<◌}
 use native.Mathlib.Nat.{le_of_suc-le-suc, eq-or-lt_of_le}
 use native.Mathlib.Numerals.{add-one}
@@ -40,7 +40,7 @@ each_at {A} (suc n) f rest d j h = ap (λ (l : List A). get_or l j d) (append_as
     go (inl e) k = subst (λ (i : ℕ). get_or (each n f ++ (f n ∷ rest)) i d ≡ f i) (sym e) (get_or_at (each n f) (f n) rest d n (length-each n f))
 
 pub get_or-each : {A : Type 0} (n : ℕ) (f : ℕ → A) (i : ℕ) (d : A) → i < n → get_or (each n f) i d ≡ f i
-get_or-each {A} n f i d h = ap (λ (l : List A). get_or l i d) (sym (append_nil (each n f))) ∙ each_at n f [] d i h
+get_or-each {A} n f i d h = ap (λ (l : List A). get_or l i d) (sym (append-nil (each n f))) ∙ each_at n f [] d i h
 
 -- ---- lent cells
 

@@ -1,6 +1,6 @@
 -- Cells that a loop fills, one a turn: its start, its turns, and what it leaves, cell by cell. Assumes nothing.
 use mathlib.Core.Path.{◌≡◌, refl, sym, ap, ap₂, ◌∙◌}
-use mathlib.Core.List.{List, [], ◌∷◌, ◌++◌, append_nil, append_assoc}
+use mathlib.Core.List.{List, [], ◌∷◌, ◌++◌, append-nil, append_assoc}
 use Prim.Native.Nat.{ℕ, suc, ◌+◌, ◌-◌, ◌≤◌, ◌<◌}
 use native.Mathlib.Nat.{le_refl, sub_self, sub-zero, add-sub_of_le, le_antisymm}
 use native.Mathlib.Numerals.{add-one}
@@ -89,7 +89,7 @@ module _ {A : Type 0} (z : A) {from to : ℕ} (l : List A) (h : from ≤ to) (ro
 -- ---- to the last cell, and from the first
 
 pub fill_rest : {A : Type 0} (z : A) (from n : ℕ) (l : List A) → length l ≡ n → filled z from n l ≡ take from l ++ replicate (n - from) z
-fill_rest {A} z from n l e = ap (λ (r : List A). take from l ++ (replicate (n - from) z ++ r)) (drop_of_length-le l {i = n} (omega arith)) ∙ ap (λ (r : List A). take from l ++ r) (append_nil (replicate (n - from) z))
+fill_rest {A} z from n l e = ap (λ (r : List A). take from l ++ (replicate (n - from) z ++ r)) (drop_of_length-le l {i = n} (omega arith)) ∙ ap (λ (r : List A). take from l ++ r) (append-nil (replicate (n - from) z))
 
 pub fill_whole : {A : Type 0} (z : A) (n : ℕ) (l : List A) → n ≡ length l → filled z 0 n l ≡ replicate (length l) z
 fill_whole {A} z n l e = fill_rest z 0 n l (sym e) ∙ ap (λ (k : ℕ). replicate k z) (sub-zero n ∙ e)

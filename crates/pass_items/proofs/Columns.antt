@@ -4,7 +4,7 @@ use mathlib.Core.Path.{◌≡◌, refl, sym, ◌∙◌, ap, subst}
 use Prim.Native.Nat.{ℕ, zero, suc, ◌+◌, ◌-◌, ◌*◌, ◌≤◌, ◌<◌}
 use native.Mathlib.Nat.{add_assoc, add_comm, add-zero, zero-add, suc-add, zero-mul, suc-mul, le_refl, not-suc-le-zero, le_of_suc-le-suc}
 use native.Mathlib.Omega.{arith}
-use mathlib.Core.List.{List, [], ◌∷◌, ◌++◌, map, map-append, append_assoc, append_nil}
+use mathlib.Core.List.{List, [], ◌∷◌, ◌++◌, map, map-append, append_assoc, append-nil}
 use lib.ListN.{length, set, take, drop, get_or, length-set, length-map, length-append, length-drop, take-append-drop, drop_of_length-le}
 use lib.Seq.{length-take-le, take-suc, drop-cons, set-append_left, set_at, append_snoc, drop-drop, take_at, drop-append-add}
 use Rattle.pass_items.specs.Parts.{stored}
@@ -89,7 +89,7 @@ module _ {A X : Type 0} (m : ℕ) (xs : List X) where
   front_all [] l h = ap (λ (n : ℕ). drop n l) (sym (zero-mul m))
   front_all (f ∷ fs) l h =
       ap (λ (u : List A). map f (take m xs) ++ u ++ front fs m (drop m l)) (drop_of_length-le (take m l) (subst (λ (n : ℕ). n ≤ m) (sym (length-take-le m l (shorter (length fs) l h).0)) (le_refl m)))
-      ∙ ap (λ (u : List A). u ++ front fs m (drop m l)) (append_nil (map f (take m xs)))
+      ∙ ap (λ (u : List A). u ++ front fs m (drop m l)) (append-nil (map f (take m xs)))
       ∙ ap (λ (u : List A). map f (take m xs) ++ u) (front_all fs (drop m l) (shorter (length fs) l h).1 ∙ ap (columns fs) (drop-drop (length fs * m) m l ∙ ap (λ (n : ℕ). drop n l) (add_comm m (length fs * m) ∙ sym (suc-mul (length fs) m))))
 
   -- the same, as `numbers_of` and `codes_of` bracket them
@@ -124,7 +124,7 @@ module _ {A X : Type 0} (m : ℕ) (xs : List X) where
 
   pub joined_at : (f : X → A) (fs : List (X → A)) (k : ℕ) (d : X → A) → m ≤ length xs → k < length (f ∷ fs) → take m (drop (k * m) (joined (map f (take m xs)) fs)) ≡ map (get_or (f ∷ fs) k d) (take m xs)
   joined_at f fs k d few h =
-      ap (λ (l : List A). take m (drop (k * m) l)) (sym (append_nil (joined (map f (take m xs)) fs)) ∙ joined_rest (map f (take m xs)) fs []) ∙ columns_at (f ∷ fs) [] k d few h
+      ap (λ (l : List A). take m (drop (k * m) l)) (sym (append-nil (joined (map f (take m xs)) fs)) ∙ joined_rest (map f (take m xs)) fs []) ∙ columns_at (f ∷ fs) [] k d few h
 
   -- ---- the first i items stored, one after another
   abbrev pub laid : (X → List A) → X → List A → ℕ → List A
