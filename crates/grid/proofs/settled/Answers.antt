@@ -8,8 +8,7 @@ use denote.Floats.{passes}
 use Rattle.grid.specs.Grid.{on_grid}
 use Rattle.grid.proofs.Range.{two^}
 use Rattle.grid.proofs.Fields.{far_grid}
-use Rattle.grid.proofs.settled.Statement.{statement}
-use Rattle.grid.proofs.settled.Tie as tie
+use Rattle.grid.proofs.settled.Goals as goal
 
 below-real : (x y : Float) → lt x y ≡ true → is_nan x ≡ false
 unfolding lt is_nan
@@ -25,14 +24,10 @@ least : (is_nan (two^ 17) ≡ false) × (on_grid (two^ 17) ≡ true)
 unfolding is_nan on_grid
 least = (refl, refl)
 
-returns : tie.Need-returns
-returns c = (below-real c.before.args.x _ c.if1.true, λ h. (h, refl))
+pub returns-then-x : goal.returns-then-x
+returns-then-x c = (below-real c.args.x _ c.if-x.true, λ h. (h, refl))
 
-returns-2 : tie.Need-returns-2
-returns-2 c =
-    let x = c.before.args.x in
-    (ap is_nan bits ∙ least.0, λ h. (ap finite bits, ap on_grid bits ∙ least.1 ∙ sym (far_grid x (passes _ c.before.well-formed.0.1) h (sym (ap (lt x) bits) ∙ c.if1.false))))
-
-pub settled-spec : {M : Type 1} → statement M
-settled-spec =
-    tie.close (tie.spec returns returns-2)
+pub returns-else-x : goal.returns-else-x
+returns-else-x c =
+    let x = c.args.x in
+    (ap is_nan bits ∙ least.0, λ h. (ap finite bits, ap on_grid bits ∙ least.1 ∙ sym (far_grid x (passes _ c.well_formed.0.1) h (sym (ap (lt x) bits) ∙ c.if-x.false))))

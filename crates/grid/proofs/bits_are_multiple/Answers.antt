@@ -11,11 +11,7 @@ use borrow.Author.Rules.{rules}
 use Rattle.grid.specs.Grid.{on_grid}
 use Rattle.grid.specs.Bits.{Lowest}
 use Rattle.grid.proofs.Fields.{lead_some, lead_place, power_in, power_real, power_bits, bits_grid}
-use Rattle.grid.proofs.bits_are_multiple.Statement.{statement}
-use Rattle.grid.proofs.bits_are_multiple.Tie as tie
-
-lowest-digit-requires : tie.Need-lowest-digit-requires
-lowest-digit-requires c κs = lead_some c.before.args.b c.with_lead.result c.with_lead.ensures
+use Rattle.grid.proofs.bits_are_multiple.Goals as goal
 
 -- the power of 2 by the place of its digit, and the bits of its float
 module _ (b q r : ℕ) (e : q % 16777216 ≡ 8388608 + b % 8388608) (l : Lowest q r) where
@@ -39,27 +35,22 @@ module _ (b q r : ℕ) (e : q % 16777216 ≡ 8388608 + b % 8388608) (l : Lowest 
       ap (λ (n : ℕ). ltb 270 n || eqb d 0) s ∙ bits_grid b q e r l f
 
 -- ---- the needs
-int-to-float-power : tie.Need-int-to-float-power
-int-to-float-power c =
-    let w = c.before.before.with_lead in
-    fits_in c.before.before.before.args.b w.result c.before.lowest-digit.result w.ensures c.before.lowest-digit.ensures
+pub int_to_float-power : goal.int_to_float-power
+int_to_float-power c =
+    let w = c.with_lead in
+    fits_in c.args.b w.result c.lowest_digit-power.result w.ensures c.lowest_digit-power.ensures
 
-float-to-bits-result : tie.Need-float-to-bits-result
-float-to-bits-result c =
-    let w = c.before.before.with_lead in
-    real c.before.before.before.args.b w.result c.before.lowest-digit.result w.ensures c.before.lowest-digit.ensures
+pub float_to_bits-result : goal.float_to_bits-result
+float_to_bits-result c =
+    let w = c.with_lead in
+    real c.args.b w.result c.lowest_digit-power.result w.ensures c.lowest_digit-power.ensures
 
-add-result : tie.Need-overflow-add-result
-add-result c =
-    let w = c.before.before.with_lead in
-    record { fits = sum_fits c.before.before.before.args.b w.result c.before.lowest-digit.result w.ensures c.before.lowest-digit.ensures }
+pub overflow_add-result : goal.overflow_add-result
+overflow_add-result c =
+    let w = c.with_lead in
+    record { fits = sum_fits c.args.b w.result c.lowest_digit-power.result w.ensures c.lowest_digit-power.ensures }
 
-returns : tie.Need-returns
+pub returns : goal.returns
 returns c =
-    let w = c.before.before.with_lead in
-    answer c.before.before.before.args.b w.result c.before.lowest-digit.result w.ensures c.before.lowest-digit.ensures
-
-pub bits-are-multiple-spec : {M : Type 1} → statement M
-bits-are-multiple-spec =
-    tie.close (tie.spec (λ c κs. search rules) lowest-digit-requires int-to-float-power float-to-bits-result add-result
-    returns)
+    let w = c.with_lead in
+    answer c.args.b w.result c.lowest_digit-power.result w.ensures c.lowest_digit-power.ensures
