@@ -10,7 +10,7 @@ ghost use Rattle.keywords.specs.Alignment.{position_of, distribution_of, content
 use grid::floats::{lower, raise};
 
 // The space that a line may take.
-#[derive(Drop)]
+#[derive(Clone, Copy)]
 pub enum AvailableSpace {
     Definite(f32),
     MinContent,
@@ -18,7 +18,7 @@ pub enum AvailableSpace {
 }
 
 // A minimum or maximum that may be absent.
-#[derive(Drop)]
+#[derive(Clone, Copy)]
 pub enum Bound {
     Absent,
     Given(f32),
@@ -74,7 +74,7 @@ pub fn read_bound(b: Bound) -> Bound
     }
 }
 
-#[derive(Drop)]
+#[derive(Clone, Copy)]
 pub enum Wrap {
     NoWrap,
     Wrap,
@@ -98,7 +98,7 @@ pub fn wrap_of(code: u32) -> Wrap
 }
 
 // Whether a container's items make one line (nowrap), greedy lines (wrap) or balanced lines (balance).
-#[derive(Drop)]
+#[derive(Clone, Copy)]
 pub enum Mode {
     Single,
     Greedy,
@@ -142,7 +142,7 @@ pub fn is_reversed(wrap: Wrap) -> bool
 }
 
 // CSS-ALIGN, `<content-position>` and `<self-position>`.
-#[derive(Drop)]
+#[derive(Clone, Copy)]
 pub enum Position {
     Start,
     End,
@@ -152,7 +152,7 @@ pub enum Position {
 }
 
 // CSS-ALIGN, `<content-distribution>`.
-#[derive(Drop)]
+#[derive(Clone, Copy)]
 pub enum Distribution {
     Stretch,
     SpaceBetween,
@@ -161,7 +161,7 @@ pub enum Distribution {
 }
 
 // `justify-content` and `align-content`: `safe` stands before a position alone.
-#[derive(Drop)]
+#[derive(Clone, Copy)]
 pub enum ContentAlignment {
     Unsafe(Position),
     Safe(Position),
@@ -169,7 +169,7 @@ pub enum ContentAlignment {
 }
 
 // `align-self`.
-#[derive(Drop)]
+#[derive(Clone, Copy)]
 pub enum SelfAlignment {
     Unsafe(Position),
     Safe(Position),
