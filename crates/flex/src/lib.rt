@@ -7,7 +7,7 @@ pub mod sharing;
 pub mod sizes;
 
 // An item as it is read: no number is -0.0, an auto margin is 0, and an absent maximum is infinite.
-#[derive(Drop)]
+#[derive(Clone, Copy)]
 pub struct Item {
     pub base: f32,
     pub minimum: f32,
@@ -21,7 +21,7 @@ pub struct Item {
 }
 
 // What the rounds of a line go by: its inner size, gap and initial free space, and whether it grows.
-#[derive(Drop)]
+#[derive(Clone, Copy)]
 pub struct Line {
     pub inner: f32,
     pub gap: f32,
@@ -30,7 +30,7 @@ pub struct Line {
 }
 
 // What a round shares out, and over what sum of weights.
-#[derive(Drop)]
+#[derive(Clone, Copy)]
 pub struct Share {
     pub growing: bool,
     pub free: f32,
