@@ -7,8 +7,7 @@ use Rattle.checks.specs.declared.Kind.{Kind}
 use Rattle.checks.specs.declared.Kind.TheVariants.{Length, Margin, Size, Factor, Worked}
 use Rattle.checks_number.specs.declared.Bounds.{Bounds}
 use Rattle.checks_number.specs.Bounds.{between, bounds_of}
-use Rattle.checks_number.proofs.bounds_of.Statement.{statement}
-use Rattle.checks_number.proofs.bounds_of.Tie as tie
+use Rattle.checks_number.proofs.bounds_of.Goals as goal
 
 abbrev written : Kind → Bounds
 written Length = between (neg (of_bits binary32 1216348160)) (of_bits binary32 1216348160) false
@@ -28,23 +27,17 @@ same Worked = refl
 is : (kind known : Kind) → kind ≡ known → written known ≡ bounds_of kind
 is kind known e = same known ∙ ap bounds_of (sym e)
 
-returns : tie.Need-returns
-returns c = c.between.ensures ∙ is c.before.before.before.args.kind Length c.before.enum_told.given.1
+pub returns-in-Length : goal.returns-in-Length
+returns-in-Length c = c.between.ensures ∙ is c.args.kind Length c.in-Length.is
 
-returns-2 : tie.Need-returns-2
-returns-2 c = c.between2.ensures ∙ is c.before.before.before.args.kind Margin c.before.enum-told2.given.1
+pub returns-in-Margin : goal.returns-in-Margin
+returns-in-Margin c = c.between-in-Margin.ensures ∙ is c.args.kind Margin c.in-Margin.is
 
-returns-3 : tie.Need-returns-3
-returns-3 c = c.between3.ensures ∙ is c.before.before.before.args.kind Size c.before.enum-told3.given.1
+pub returns-in-Size : goal.returns-in-Size
+returns-in-Size c = c.between-in-Size.ensures ∙ is c.args.kind Size c.in-Size.is
 
-returns-4 : tie.Need-returns-4
-returns-4 c = c.between4.ensures ∙ is c.before.before.before.args.kind Factor c.before.enum-told4.given.1
+pub returns-in-Factor : goal.returns-in-Factor
+returns-in-Factor c = c.between-in-Factor.ensures ∙ is c.args.kind Factor c.in-Factor.is
 
-returns-5 : tie.Need-returns-5
-returns-5 c = c.between5.ensures ∙ is c.before.before.before.args.kind Worked c.before.enum-told5.given.1
-
-pub bounds-of-spec : {M : Type 1} → statement M
-bounds-of-spec =
-    tie.close (tie.spec (λ c. search rules) (λ c κs. search rules) (λ c. search rules) (λ c κs. search rules)
-    (λ c. search rules) (λ c κs. search rules) (λ c. search rules) (λ c κs. search rules) (λ c. search rules)
-    (λ c κs. search rules) returns returns-2 returns-3 returns-4 returns-5)
+pub returns-in-Worked : goal.returns-in-Worked
+returns-in-Worked c = c.between-in-Worked.ensures ∙ is c.args.kind Worked c.in-Worked.is

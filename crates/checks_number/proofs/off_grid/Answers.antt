@@ -5,17 +5,12 @@ use borrow.Author.Rules.{rules}
 use Rattle.checks.specs.Domain.{gridded, off_grid}
 use Rattle.checks_number.specs.declared.Bounds.{Bounds}
 use Rattle.checks_number.proofs.Fine.{free_is}
-use Rattle.checks_number.proofs.off_grid.Statement.{statement}
-use Rattle.checks_number.proofs.off_grid.Tie as tie
+use Rattle.checks_number.proofs.off_grid.Goals as goal
 
 twice : (b : Bool) → not (not b) ≡ b
 twice true = refl
 twice false = refl
 
-returns : tie.Need-returns
+pub returns : goal.returns
 unfolding off_grid
-returns c kind e = ap₂ (λ (p q : Bool). p && not q) (ap (λ (b : Bounds). not b.free) e ∙ ap not (free_is kind) ∙ twice (gridded kind)) c.on-grid.ensures
-
-pub off-grid-spec : {M : Type 1} → statement M
-off-grid-spec =
-    tie.close (tie.spec (λ c κs. search rules) returns)
+returns c kind e = ap₂ (λ (p q : Bool). p && not q) (ap (λ (b : Bounds). not b.free) e ∙ ap not (free_is kind) ∙ twice (gridded kind)) c.on_grid.ensures
