@@ -12,7 +12,7 @@ use balance_sums::{at, sums};
 use grid::whole::{larger, smaller};
 
 // The total of line scores: squares of whole sixty-fourths.
-#[derive(Drop)]
+#[derive(Clone, Copy)]
 pub struct Score(pub f64);
 
 // What a line with this base that ends with the item `end`, and the best division after it, cost. No entry point.
@@ -98,7 +98,7 @@ fn choose(sums: &[f64], gap: Units, prev: &[f64], base: Units, near: usize, far:
 
 // What a start chose: the last item of its line, the first end that later starts may need, and the end before which
 // earlier starts find theirs.
-#[derive(Drop)]
+#[derive(Clone, Copy)]
 pub struct Picked {
     pub end: usize,
     pub lo: usize,

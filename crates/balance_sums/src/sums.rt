@@ -4,7 +4,7 @@ ghost use Rattle.std.specs.Prelude.{◌≤◌, ◌<◌, length, ◌≡◌};
 ghost use Rattle.balance_sums.specs.Sums.{before_f, size_f, base_f};
 
 // Whole sixty-fourths of a pixel. A number of pixels cannot stand where one of these is meant.
-#[derive(Drop)]
+#[derive(Clone, Copy)]
 pub struct Units(pub f64);
 
 // The sum of the items before `start`, each with its gap.

@@ -14,7 +14,7 @@ pub mod pixels;
 
 // A limit as the tables take it: the most that a line of several items may measure, and whether there is any such
 // bound.
-#[derive(Drop)]
+#[derive(Clone, Copy)]
 pub struct Cap {
     pub bounded: bool,
     pub most: Units,

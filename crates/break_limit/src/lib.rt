@@ -13,7 +13,7 @@ use keywords::{AvailableSpace, Bound, raise_to};
 
 // What the break limit turns on: the known main size, the container's own main size, its direction, and the space and
 // bounds on its main axis.
-#[derive(Drop)]
+#[derive(Clone, Copy)]
 pub struct Query {
     pub known_is_definite: bool,
     pub main_is_definite: bool,
@@ -23,7 +23,7 @@ pub struct Query {
     pub maximum: Bound,
 }
 
-#[derive(Drop)]
+#[derive(Clone, Copy)]
 pub enum BreakLimit {
     Limit(AvailableSpace),
     Refused(Refusal),

@@ -9,7 +9,7 @@ use capture_format::{Head, Parsed, Stage, parse};
 use keywords::AvailableSpace;
 
 // Where the reading of a capture stands between two bytes. It comes from `start` and `feed` alone.
-#[derive(Drop)]
+#[derive(Clone, Copy)]
 pub struct Reader {
     pub stage: Stage,
     // The offset where the record starts that is being read, or the one that broke.
@@ -24,7 +24,7 @@ pub struct Reader {
 }
 
 // What a capture says, once its last byte was fed.
-#[derive(Drop)]
+#[derive(Clone, Copy)]
 pub enum Captured {
     Whole { head: Head, items: usize },
     // The offset where the faulty record starts. A record that the capture's end cuts is faulty, and so is a missing

@@ -12,7 +12,7 @@ ghost use Rattle.capture_format.specs.Parts.{front};
 use keywords::{AvailableSpace, space_of};
 
 // A record of kind 1: what the items are broken by.
-#[derive(Drop)]
+#[derive(Clone, Copy)]
 pub struct Head {
     pub limit: AvailableSpace,
     pub gap: f32,
@@ -20,7 +20,7 @@ pub struct Head {
 }
 
 // Which records may stand next.
-#[derive(Drop)]
+#[derive(Clone, Copy)]
 pub enum Stage {
     First,
     Items,
@@ -30,7 +30,7 @@ pub enum Stage {
 }
 
 // What some bytes are, which start where a record is due.
-#[derive(Drop)]
+#[derive(Clone, Copy)]
 pub enum Parsed {
     // The beginning of a record that may stand here.
     Partial,

@@ -11,7 +11,7 @@ ghost use Rattle.capture_text.specs.declared.Reply.TheVariants.{Lines};
 use checks::{Place, Refusal};
 
 // The answer to a capture. The counts of the lines are in the list that was lent.
-#[derive(Drop)]
+#[derive(Clone, Copy)]
 pub enum Reply {
     Lines(u32),
     Refused(Refusal),

@@ -11,7 +11,7 @@ ghost use Rattle.checks.specs.Marks.{as_answer, judged, place_of};
 pub mod shapes; // shapes.rt: checks 1 and 2 of the lengths of lists
 
 // What a number is, and so which grid and range it is held to.
-#[derive(Drop)]
+#[derive(Clone, Copy)]
 pub enum Kind {
     // A size handed to breaking, or a definite limit: on the grid, at most 262,144 px either way.
     Length,
@@ -25,14 +25,14 @@ pub enum Kind {
     Worked,
 }
 
-#[derive(Drop)]
+#[derive(Clone, Copy)]
 pub enum Place {
     Container,
     // An item, or in a list of lines a line.
     At(u32),
 }
 
-#[derive(Drop)]
+#[derive(Clone, Copy)]
 pub enum Refusal {
     TooManyItems,
     TooLittleRoom,
@@ -42,14 +42,14 @@ pub enum Refusal {
     SumTooLarge,
 }
 
-#[derive(Drop)]
+#[derive(Clone, Copy)]
 pub enum Verdict {
     Passed,
     Refused(Refusal),
 }
 
 // What a call answers. Where it refuses there are no lines and no rounds to tell of.
-#[derive(Drop)]
+#[derive(Clone, Copy)]
 pub enum Answer {
     Done { lines: u32, rounds: u32 },
     Refused(Refusal),
@@ -57,7 +57,7 @@ pub enum Answer {
 
 // The first check that a number fails, and its place, in one number, so that the least of all marks is the refusal that
 // comes first.
-#[derive(Drop)]
+#[derive(Clone, Copy)]
 pub struct Mark(pub u32);
 
 // The mark of a number that no check refuses.

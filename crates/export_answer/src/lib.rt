@@ -11,7 +11,7 @@ use checks::{Answer, Place, Refusal};
 // An answer's number, its place, its lines and its rounds. `at` says where: 0 nowhere, 1 the container, 2 the item or
 // line `place`.
 #[repr(C)]
-#[derive(Drop)]
+#[derive(Clone, Copy)]
 pub struct CAnswer {
     pub number: u32,
     pub at: u32,

@@ -13,7 +13,7 @@ use flex_line_call::FlexAnswer;
 // Number and place as in CAnswer; then the line's free space before flexing, in sixty-fourths, and its rounds. Both are
 // 0 on refusal.
 #[repr(C)]
-#[derive(Drop)]
+#[derive(Clone, Copy)]
 pub struct CFlexed {
     pub number: u32,
     pub at: u32,

@@ -15,7 +15,7 @@ use keywords::{AvailableSpace, bound_of, space_of};
 // A break limit: number and place as in every answer, then its kind (0 definite, 1 min-content, 2 max-content, 3 none:
 // refused), and the limit where it is definite.
 #[repr(C)]
-#[derive(Drop)]
+#[derive(Clone, Copy)]
 pub struct CLimit {
     pub number: u32,
     pub at: u32,

@@ -15,7 +15,7 @@ use place_size_call::SizeAnswer;
 
 // Number and place as in CAnswer; then a line's cross size, or the container's inner one. It is 0.0 on refusal.
 #[repr(C)]
-#[derive(Drop)]
+#[derive(Clone, Copy)]
 pub struct CSized {
     pub number: u32,
     pub at: u32,

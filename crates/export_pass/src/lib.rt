@@ -14,7 +14,7 @@ pub mod finishing;
 // An answer's number, its place, its lines, its rounds and its inner cross size. `at` says where: 0 nowhere, 1 the
 // container, 2 the item `place`.
 #[repr(C)]
-#[derive(Drop)]
+#[derive(Clone, Copy)]
 pub struct CPassed {
     pub number: u32,
     pub at: u32,

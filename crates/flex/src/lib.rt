@@ -38,7 +38,7 @@ pub struct Share {
 }
 
 // Of a line the outer sizes, and of its unfrozen items the factors, the weights and the number.
-#[derive(Drop)]
+#[derive(Clone, Copy)]
 pub struct Sums {
     pub outer: f32,
     pub factors: f32,

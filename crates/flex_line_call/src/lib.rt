@@ -18,7 +18,7 @@ use flex_table::read_items;
 use flex_table::sum::outer_sum;
 
 // What flexing a line answers: its free space before flexing, and its rounds.
-#[derive(Drop)]
+#[derive(Clone, Copy)]
 pub enum FlexAnswer {
     Done {
         free: grid::Sixtyfourths,

@@ -106,7 +106,7 @@ fn tidy(targets: &mut [f32], n: usize)
 }
 
 // A line's free space before flexing, and its rounds.
-#[derive(Drop)]
+#[derive(Clone, Copy)]
 pub struct Flexing {
     pub free: grid::Sixtyfourths,
     pub rounds: u32,

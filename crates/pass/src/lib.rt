@@ -36,7 +36,7 @@ fn lay_cross<'a>(
 }
 
 // How many lines there are, and the sum of their rounds.
-#[derive(Drop)]
+#[derive(Clone, Copy)]
 pub struct Lines {
     pub count: usize,
     pub rounds: u32,
@@ -82,7 +82,7 @@ fn lay_main<'a>(
 }
 
 // What an accepted run answers: the lines, the sum of their rounds, and the container's inner cross size.
-#[derive(Drop)]
+#[derive(Clone, Copy)]
 pub struct Layout {
     pub lines: u32,
     pub rounds: u32,
@@ -125,7 +125,7 @@ pub fn lay_out<'a>(
 }
 
 // What the pass answers: the lines, the sum of their rounds, and the container's inner cross size.
-#[derive(Drop)]
+#[derive(Clone, Copy)]
 pub enum PassAnswer {
     Done {
         lines: u32,

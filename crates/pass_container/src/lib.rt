@@ -6,7 +6,7 @@ pub mod columns;
 // The container's gaps, sizes, limit and keywords travel as one value, to every stage. The codes are those of the
 // header.
 #[repr(C)]
-#[derive(Drop)]
+#[derive(Clone, Copy)]
 pub struct Container {
     pub inner_main: f32,
     pub gap_main: f32,

@@ -10,7 +10,7 @@ ghost use Rattle.pass_items.specs.Parts.{numbers_in, codes_in, stored};
 // An item: fourteen numbers and eight codes, each read as the pass reads its column. A flag is a code: 0 no, 1 yes; the
 // pass refuses any other.
 #[repr(C)]
-#[derive(Drop)]
+#[derive(Clone, Copy)]
 pub struct Item {
     pub main_base: f32,
     pub main_minimum: f32,

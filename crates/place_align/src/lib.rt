@@ -12,7 +12,7 @@ use keywords::{ContentAlignment, Distribution, Position, SelfAlignment};
 pub mod axis; // axis.rt: margins that may be auto, and offsets in the order of the walk
 
 // What is left of a content alignment after its fallback.
-#[derive(Drop)]
+#[derive(Clone, Copy)]
 pub enum Resolved {
     At(Position),
     Spread(Distribution),

@@ -11,7 +11,7 @@ use place_size::container::Cross;
 
 // As a host hands it over. A size or bound whose code is 0 is absent, and its number is not read.
 #[repr(C)]
-#[derive(Drop)]
+#[derive(Clone, Copy)]
 pub struct CrossNumbers {
     pub inner: f32,
     pub has_inner: u32,

@@ -10,7 +10,7 @@ use place_size::cross_size;
 use place_size::cross_size::CrossItem;
 
 // Where an item stands across its line.
-#[derive(Drop)]
+#[derive(Clone, Copy)]
 pub struct CrossPlace {
     pub size: f32,
     pub start: f32,

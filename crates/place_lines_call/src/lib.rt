@@ -15,7 +15,7 @@ use grid::whole::larger;
 use place_checks::numbers::{CrossNumbers, cross_of, mark_cross};
 use place_cross::lines;
 
-#[derive(Drop)]
+#[derive(Clone, Copy)]
 pub enum LinesAnswer {
     // The container's inner cross size.
     Placed(f32),

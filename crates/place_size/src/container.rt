@@ -5,7 +5,7 @@ ghost use Rattle.place_size.specs.Container.{read_cross, bounded, inner_size, or
 use keywords::{Bound, Wrap, lower_to, raise_to, read_bound};
 
 // The container's cross axis: the inner size where it is definite, the bounds on it, and the gap between lines.
-#[derive(Drop)]
+#[derive(Clone, Copy)]
 pub struct Cross {
     pub inner: Bound,
     pub minimum: Bound,

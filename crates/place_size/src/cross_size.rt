@@ -9,7 +9,7 @@ use crate::container::Cross;
 use grid::floats::{lower, raise};
 
 // What an item's cross size and margins turn on. `capped` says that there is a maximum; `edges` is padding plus border.
-#[derive(Drop)]
+#[derive(Clone, Copy)]
 pub struct CrossItem {
     pub measured: f32,
     pub minimum: f32,

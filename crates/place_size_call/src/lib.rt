@@ -14,7 +14,7 @@ use place_checks::numbers::CrossNumbers;
 use place_checks::{lengths, marks, numbers};
 use place_size::cross_size;
 
-#[derive(Drop)]
+#[derive(Clone, Copy)]
 pub enum SizeAnswer {
     // The line's cross size.
     Sized(f32),
