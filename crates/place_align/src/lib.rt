@@ -30,6 +30,7 @@ fn fallback_of(d: Distribution) -> ContentAlignment
 }
 
 // CSS-ALIGN 5.3: a distribution needs free space, and two items to put it between.
+#[tactic(auto, unfolding(crate::specs::Align::fallback))]
 fn fall_back(free: f32, n: usize, alignment: ContentAlignment) -> ContentAlignment
     ensures { result ≡ fallback free n alignment }
 {
@@ -49,6 +50,7 @@ fn fall_back(free: f32, n: usize, alignment: ContentAlignment) -> ContentAlignme
 }
 
 // CSS-ALIGN 4.4: a safe position gives way where there is no free space.
+#[tactic(auto, unfolding(crate::specs::Align::made_safe))]
 fn resolve_safety(free: f32, alignment: ContentAlignment) -> Resolved
     ensures { result ≡ made_safe free alignment }
 {
@@ -71,6 +73,7 @@ pub fn apply_alignment_fallback(free: f32, n: usize, alignment: ContentAlignment
 }
 
 // A position's offset. A reversed axis exchanges flex-start and flex-end.
+#[tactic(auto, unfolding(crate::specs::Align::positioned))]
 fn position_offset(free: f32, reversed: bool, p: Position) -> f32
     ensures { result ≡ positioned free reversed p }
 {
@@ -84,6 +87,7 @@ fn position_offset(free: f32, reversed: bool, p: Position) -> f32
 }
 
 // The step before the first item. No entry point.
+#[tactic(auto, unfolding(crate::specs::Align::first_offset))]
 pub fn first_offset(free: f32, n: usize, reversed: bool, alignment: Resolved) -> f32
     requires { n ≤ 1024 }
     ensures { result ≡ first_offset free n reversed alignment }
@@ -100,6 +104,7 @@ pub fn first_offset(free: f32, n: usize, reversed: bool, alignment: Resolved) ->
 }
 
 // The step before each later item. No entry point.
+#[tactic(auto, unfolding(crate::specs::Align::later_offset))]
 pub fn later_offset(free: f32, n: usize, gap: f32, alignment: Resolved) -> f32
     requires { (0 < n) × (n ≤ 1024) }
     ensures { result ≡ later_offset free n gap alignment }
@@ -116,6 +121,7 @@ pub fn later_offset(free: f32, n: usize, gap: f32, alignment: Resolved) -> f32
 }
 
 // CSS-FLEX 9.6: an item's offset in its line by `align-self`, where neither cross margin is auto.
+#[tactic(auto, unfolding(crate::specs::Align::self_offset, crate::specs::Align::positioned))]
 pub fn align_item(free: f32, reversed: bool, alignment: SelfAlignment) -> f32
     ensures { result ≡ self_offset free reversed alignment }
 {
