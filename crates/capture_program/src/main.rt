@@ -7,7 +7,12 @@ ghost use Rattle.capture_program.specs.Turned.{Turned};
 
 use capture_feed::Reader;
 use capture_text::Reply;
-use libc::{STDIN_FILENO, STDOUT_FILENO};
+use std::io;
+use std::io::Read;
+
+// A proved loop has to end, and nothing says that the input does. So the loop takes at most so many turns, a number
+// that no run uses up.
+const MOST_TURNS: u64 = 0x8000_0000_0000;
 
 #[derive(Drop)]
 struct Turn {
@@ -16,13 +21,12 @@ struct Turn {
 }
 
 // Reads once and feeds what came. No bytes are the end of the input, or a read that failed.
-fn read_some(reader: Reader, sizes: &mut [f32; 64]) -> Turn
+fn read_some(input: &mut impl Read, reader: Reader, sizes: &mut [f32; 64]) -> Turn
     requires { ReaderReady reader 65536 }
     ensures { Turned reader sizes.old result sizes.new }
 {
-    let mut buffer = io::large_buffer();
-    let got = libc::read(STDIN_FILENO, &mut buffer);
-    let n = io::count(got, &buffer);
+    let mut buffer = [0u8; 65536];
+    let n = input.read(&mut buffer).unwrap_or(0);
     let next = capture_feed::feed(reader, &buffer[..n], sizes);
     Turn {
         reader: next,
@@ -30,30 +34,26 @@ fn read_some(reader: Reader, sizes: &mut [f32; 64]) -> Turn
     }
 }
 
-fn print(reply: Reply, counts: &[u32])
+fn print(rt: &impl Print, reply: Reply, counts: &[u32]) -> io::Result<()>
     requires { length counts.now ≡ 64 }
 {
     let mut text = [0u8; 2048];
     let n = capture_text::spell(reply, counts, &mut text);
-    io::write_all(STDOUT_FILENO, &text[..n]);
+    rt.write_all(&text[..n])
 }
 
-// A proved loop has to end, and nothing says that the input does. So the loop counts its turns down, from a number that
-// no run uses up.
-fn main() {
+fn main(rt: HostRuntime) -> io::Result<()> {
+    let mut input = rt.stdin();
     let mut sizes = [0.0f32; 64];
     let mut counts = [0u32; 64];
     let mut reader = capture_feed::start();
-    let mut turns: u64 = 0x8000_0000_0000;
-    while turns > 0 {
-        let t = read_some(reader, &mut sizes);
-        reader = t.reader;
-        if t.bytes == 0 {
-            turns = 0;
-        } else {
-            turns -= 1;
+    for _ in 0..MOST_TURNS {
+        let turn = read_some(&mut input, reader, &mut sizes);
+        reader = turn.reader;
+        if turn.bytes == 0 {
+            break;
         }
     }
     let reply = capture::answer(reader, &sizes, &mut counts);
-    print(reply, &counts);
+    print(&rt, reply, &counts)
 }
