@@ -15,6 +15,7 @@ pub struct Cross {
 }
 
 // The container's numbers as they are used: -0.0 reads as 0.
+#[tactic(auto, unfolding(crate::specs::Container::read_cross))]
 pub fn read_cross(c: Cross) -> Cross
     ensures { result ≡ read_cross c }
 {
@@ -32,6 +33,7 @@ pub fn read_cross(c: Cross) -> Cross
 }
 
 // A size held to the container's bounds: the minimum wins.
+#[tactic(auto, unfolding(crate::specs::Container::bounded))]
 pub fn hold(c: Cross, x: f32) -> f32
     ensures { result ≡ bounded c x }
 {

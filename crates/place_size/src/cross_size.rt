@@ -23,6 +23,7 @@ pub struct CrossItem {
 }
 
 // An item's size held to its bounds: padding plus border wins, then the minimum.
+#[tactic(auto, unfolding(crate::specs::CrossSize::cross_clamp))]
 pub fn clamp_item(it: CrossItem, x: f32) -> f32
     ensures { result ≡ cross_clamp it x }
 {
@@ -39,6 +40,7 @@ fn or_nought(auto: bool, x: f32) -> f32
 }
 
 // The sum of an item's margins, auto ones as 0.
+#[tactic(auto, unfolding(crate::specs::CrossSize::margins))]
 pub fn margin_sum(it: CrossItem) -> f32
     ensures { result ≡ margins it }
 {
@@ -46,6 +48,7 @@ pub fn margin_sum(it: CrossItem) -> f32
 }
 
 // What an item asks of its line. Baselines change this step alone.
+#[tactic(auto, unfolding(crate::specs::CrossSize::outer_size))]
 fn outer_cross_size(it: CrossItem) -> f32
     ensures { result ≡ outer_size it }
 {
@@ -138,6 +141,7 @@ fn largest_outer<'a>(
 }
 
 // The size of a line whose items ask for x.
+#[tactic(auto, unfolding(crate::specs::CrossSize::line_cross_size))]
 fn line_size(c: Cross, x: f32) -> f32
     ensures { result ≡ line_cross_size c x }
 {
