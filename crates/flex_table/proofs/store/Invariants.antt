@@ -1,0 +1,11 @@
+-- A column of numbers: the loop has filled its first i cells. Assumes nothing.
+use Rattle.std.proofs.Common.{◌-◌, length}
+use Rattle.flex.specs.Items.{read}
+use Rattle.flex_table.proofs.Columns.{Filling}
+use Rattle.flex_table.proofs.store.Given as goal
+
+abbrev pub invariant-loop-i : goal.invariant-loop-i
+invariant-loop-i l = Filling l.column (length l.xs) (read l.xs) l.initial.table l.table l.i
+
+abbrev pub decreases-loop-i : goal.decreases-loop-i
+decreases-loop-i l = length l.xs - l.i
