@@ -19,6 +19,7 @@ pub struct CrossPlace {
 }
 
 // An item stretches where its size and neither of its margins is against it.
+#[tactic(auto, unfolding(crate::specs::CrossAxis::is_stretched))]
 fn is_stretched(it: CrossItem, alignment: SelfAlignment, auto_size: bool) -> bool
     ensures { result ≡ is_stretched it alignment auto_size }
 {
@@ -37,6 +38,7 @@ fn is_stretched(it: CrossItem, alignment: SelfAlignment, auto_size: bool) -> boo
     }
 }
 
+#[tactic(auto, unfolding(crate::specs::CrossAxis::used_size))]
 fn used_cross_size(line: f32, it: CrossItem, stretched: bool) -> f32
     ensures { result ≡ used_size line it stretched }
 {
@@ -46,6 +48,7 @@ fn used_cross_size(line: f32, it: CrossItem, stretched: bool) -> f32
     cross_size::clamp_item(it, it.measured)
 }
 
+#[tactic(auto, unfolding(crate::specs::CrossAxis::free_cross))]
 fn free_cross_space(line: f32, it: CrossItem, size: f32) -> f32
     ensures { result ≡ free_cross line it size }
 {
@@ -59,6 +62,7 @@ fn are_both(a: bool, b: bool) -> bool
 }
 
 // What an auto margin takes of free space of 0 or more: all, or half of it beside another.
+#[tactic(auto, unfolding(crate::specs::CrossAxis::auto_margin))]
 fn auto_margin(free: f32, it: CrossItem) -> f32
     ensures { result ≡ auto_margin free it }
 {
@@ -69,6 +73,7 @@ fn auto_margin(free: f32, it: CrossItem) -> f32
 }
 
 // On a line too short for an item and its margins an auto start margin is 0 ..
+#[tactic(auto, unfolding(crate::specs::CrossAxis::start_margin))]
 fn start_margin(free: f32, it: CrossItem) -> f32
     ensures { result ≡ start_margin free it }
 {
@@ -82,6 +87,7 @@ fn start_margin(free: f32, it: CrossItem) -> f32
 }
 
 // .. and what is missing is taken off the end margin, auto or given, so that all together is as large as the line.
+#[tactic(auto, unfolding(crate::specs::CrossAxis::end_margin))]
 fn end_margin(free: f32, it: CrossItem) -> f32
     ensures { result ≡ end_margin free it }
 {
@@ -98,6 +104,7 @@ fn end_margin(free: f32, it: CrossItem) -> f32
 }
 
 // An auto margin leaves nothing to align.
+#[tactic(auto, unfolding(crate::specs::CrossAxis::cross_offset))]
 fn cross_offset(free: f32, reversed: bool, it: CrossItem, alignment: SelfAlignment) -> f32
     ensures { result ≡ cross_offset free reversed it alignment }
 {
@@ -110,6 +117,7 @@ fn cross_offset(free: f32, reversed: bool, it: CrossItem, alignment: SelfAlignme
     place_align::align_item(free, reversed, alignment)
 }
 
+#[tactic(auto, unfolding(crate::specs::CrossAxis::placed_item))]
 fn place_item(
     line: f32,
     reversed: bool,

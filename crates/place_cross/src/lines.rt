@@ -36,6 +36,7 @@ fn stretch_target(c: Cross) -> Bound
 }
 
 // What each of n lines gains, where lines and gaps together are `used`.
+#[tactic(auto, unfolding(crate::specs::Lines::gain_to))]
 fn gain_to(target: Bound, used: f32, n: usize) -> f32
     requires { n ≤ 1024 }
     ensures { result ≡ gain_to target used n }
@@ -51,6 +52,7 @@ fn gain_to(target: Bound, used: f32, n: usize) -> f32
     }
 }
 
+#[tactic(auto, unfolding(crate::specs::Lines::gain))]
 fn line_gain(c: Cross, alignment: ContentAlignment, used: f32, n: usize) -> f32
     requires { n ≤ 1024 }
     ensures { result ≡ gain c alignment used n }
@@ -61,6 +63,7 @@ fn line_gain(c: Cross, alignment: ContentAlignment, used: f32, n: usize) -> f32
     0.0
 }
 
+#[tactic(auto, unfolding(crate::specs::Lines::grown))]
 fn grow_line(more: f32, x: f32) -> f32
     ensures { result ≡ grown more x }
 {
