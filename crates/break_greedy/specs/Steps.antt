@@ -1,5 +1,5 @@
 -- What the parts of a breaking call ask and ensure. Only contracts of parts cite it. Assumes nothing.
-use Rattle.std.specs.Prelude.{◌≡◌, List, [], ◌∷◌, ◌++◌, ℕ, suc, ◌+◌, ◌-◌, ◌≤◌, length, get_or, drop, pos, Float}
+use Rattle.std.specs.Prelude.{◌≡◌, List, [], ◌∷◌, ◌++◌, ℕ, suc, ◌+◌, ◌≤◌, length, get_or, drop, pos, Float}
 use Rattle.grid.specs.Grid.{sixty_fourths}
 use Rattle.grid.specs.Values.{Length}
 use Rattle.checks.specs.Marks.{Lengths}

@@ -1,0 +1,29 @@
+-- `line_end` meets its contract: the answer still to come stays the same, turn by turn (Line.antt).
+use Rattle.std.proofs.Common.{sym, ◌∙◌}
+use Rattle.break_greedy.proofs.Line.{begin, next_at, turn, full, done}
+use Rattle.break_greedy.proofs.line_end.Goals as goal
+
+pub loop-i-init : goal.loop-i-init
+loop-i-init c = let a = c.args in begin a.sizes.now a.gap a.limit c.requires.0 a.start c.requires.1
+
+pub loop-i-preserved : goal.loop-i-preserved
+loop-i-preserved c =
+    let a = c.args in
+    let l = c.loop-i in
+    let z = next_at a.sizes.now a.gap a.limit c.requires.0 a.start l.size l.i l.invariant c.loop-i-test.true in
+    turn a.sizes.now a.gap a.limit c.requires.0 a.start l.size l.i l.invariant c.loop-i-test.true
+    (sym c.if-line_fits.true ∙ c.line_fits.ensures _ z)
+
+pub returns-else-line_fits : goal.returns-else-line_fits
+returns-else-line_fits c =
+    let a = c.args in
+    let l = c.loop-i in
+    let z = next_at a.sizes.now a.gap a.limit c.requires.0 a.start l.size l.i l.invariant c.loop-i-test.true in
+    full a.sizes.now a.gap a.limit c.requires.0 a.start l.size l.i l.invariant c.loop-i-test.true
+    (sym c.if-line_fits.false ∙ c.line_fits.ensures _ z)
+
+pub returns : goal.returns
+returns c =
+    let a = c.args in
+    let l = c.loop-i in
+    done a.sizes.now a.gap a.limit c.requires.0 a.start l.size l.i l.invariant c.loop-i-test.false
