@@ -8,9 +8,7 @@ use Rattle.export_limit.specs.Limits.{Asked, asked_codes, query_of, c_limit, fla
 use Rattle.export_limit.specs.declared.CLimit.{CLimit}
 use Rattle.keywords.specs.declared.AvailableSpace.{AvailableSpace}
 use Rattle.keywords.specs.declared.Bound.{Bound}
-use borrow.Author.Rules.{rules}
-use Rattle.export_limit.proofs.fratolivem_break_limit.Statement.{statement}
-use Rattle.export_limit.proofs.fratolivem_break_limit.Tie as tie
+use Rattle.export_limit.proofs.fratolivem_break_limit.Goals as goal
 
 -- the query that the code makes of space and bounds
 abbrev with : Asked → AvailableSpace → Bound → Bound → Query
@@ -24,18 +22,13 @@ made a s l m e f g =
 answered : (a : Asked) (q : Query) (v : Verdict) (r : CLimit) → q ≡ query_of a → v ≡ limit_verdict (asked_codes a) q → r ≡ c_limit (limit_from v q) → r ≡ limit_from_c a
 answered a q v r e f g = g ∙ ap (λ (w : Verdict). c_limit (limit_from w q)) f ∙ ap (λ (p : Query). c_limit (limit_from (limit_verdict (asked_codes a) p) p)) e
 
-returns : tie.Need-returns
+pub returns : goal.returns
 returns c =
-    let a = c.before.before.before.before.before.before.args in
-    let A : Asked = record { known = a.known; main = a.main; row = a.row; kind = a.kind; available = a.available; has_minimum = a.has-minimum; minimum = a.minimum; has_maximum = a.has_maximum; maximum = a.maximum } in
-    let v = c.before.check-limit.ensures (asked_codes A) (c.before.before.before.before.before.mark-codes.ensures a.available a.minimum a.maximum) in
-    let s = c.before.before.before.before.space-of in
-    let l = c.before.before.before.bound_of in
-    let m = c.before.before.bound-of2 in
-    answered A (with A s.result l.result m.result) c.before.check-limit.result c.limit-to-c.result
-    (made A s.result l.result m.result s.ensures l.ensures m.ensures) v c.limit-to-c.ensures
-
-pub fratolivem-break-limit-spec : {M : Type 1} → statement M
-fratolivem-break-limit-spec =
-    tie.close (tie.spec (λ c κs. search rules) (λ c κs. search rules) (λ c κs. search rules) (λ c κs. search rules)
-    (λ c κs. search rules) (λ c κs. search rules) returns)
+    let a = c.args in
+    let A : Asked = record { known = a.known; main = a.main; row = a.row; kind = a.kind; available = a.available; has_minimum = a.has_minimum; minimum = a.minimum; has_maximum = a.has_maximum; maximum = a.maximum } in
+    let v = c.check_limit.ensures (asked_codes A) (c.mark_codes-codes.ensures a.available a.minimum a.maximum) in
+    let s = c.space_of-space in
+    let l = c.bound_of-least in
+    let m = c.bound_of-most in
+    answered A (with A s.result l.result m.result) c.check_limit.result c.limit_to_c.result
+    (made A s.result l.result m.result s.ensures l.ensures m.ensures) v c.limit_to_c.ensures
