@@ -1,0 +1,13 @@
+-- `capture_text::put_refusal` meets its contract. Assumes nothing.
+use native.Mathlib.Omega.{arith}
+use Rattle.capture_text.proofs.Puts.{put_more, place_short}
+use Rattle.capture_text.proofs.put_refusal.Goals as goal
+
+pub put_byte-requires : goal.put_byte-requires
+put_byte-requires c =
+    let p = c.put_place-b.ensures in
+    let h = c.put_head-a.ensures in
+    omega (arith, p.past, p.as_long, h.past, h.as_long, place_short c.args.place)
+
+pub returns : goal.returns
+returns c = put_more c.put_head-a.ensures (put_more c.put_place-b.ensures c.put_byte.ensures)
