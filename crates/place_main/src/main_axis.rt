@@ -11,6 +11,7 @@ use keywords::ContentAlignment;
 use place_align::axis;
 
 // An item with its margins, auto ones as 0.
+#[tactic(auto, unfolding(crate::specs::MainAxis::main_outer))]
 fn outer_size(target: f32, auto_start: u32, start: f32, auto_end: u32, end: f32) -> f32
     ensures { result ≡ main_outer target auto_start start auto_end end }
 {
@@ -41,6 +42,7 @@ fn outer_sum<'a>(
 }
 
 // The inner size less the used space.
+#[tactic(auto, unfolding(crate::specs::MainAxis::free_space))]
 fn free_space<'a>(
     inner: f32,
     gap: f32,
@@ -78,6 +80,7 @@ fn count_auto(auto: &[u32]) -> usize
 }
 
 // What each auto margin gets: an equal part of free space above 0.0.
+#[tactic(auto, unfolding(crate::specs::MainAxis::auto_share))]
 fn auto_share(free: f32, count: usize) -> f32
     requires { count ≤ 2048 }
     ensures { result ≡ auto_share free count }
@@ -91,6 +94,7 @@ fn auto_share(free: f32, count: usize) -> f32
 }
 
 // What auto margins leave for `justify-content`.
+#[tactic(auto, unfolding(crate::specs::MainAxis::justified))]
 fn justified_space(free: f32, count: usize) -> f32
     ensures { result ≡ justified free count }
 {
