@@ -1,7 +1,7 @@
 -- The marks of a line's lists, put together, are the least mark of its items: a list's marks are some numbers more of every item. Assumes nothing.
 use mathlib.Core.Path.{◌≡◌, refl, ap, ◌∙◌}
 use mathlib.Core.List.{List, ◌++◌}
-use Prim.Native.Nat.{ℕ, ◌+◌, min}
+use Prim.Native.Nat.{ℕ, min}
 use lib.ListN.{length}
 use Rattle.checks.specs.declared.Kind.TheVariants.{Size, Margin}
 use Rattle.checks.specs.Lists.{float_at, code_at, beside_at}

@@ -23,6 +23,7 @@ pub struct CrossNumbers {
     pub wrap: u32,
 }
 
+#[tactic(auto, unfolding(crate::specs::Numbers::cross_of))]
 pub fn cross_of(c: CrossNumbers) -> Cross
     ensures { result ≡ cross_of c }
 {
