@@ -173,7 +173,7 @@ module _ (q : Ghost) (sums : List Float) (gap : Float) (fit : List ℕ) (prev : 
       z = sub binary64 (get_or sums e nan) (base_f sums gap s)
 
       en : e < length q.xs
-      en = omega (arith, st.feas.room, R.Some-after)
+      en = omega (arith, st.feas.room, R.some_after)
 
       size : Holds (sub binary64 (get_or sums e nan) (base_f sums gap s)) (size_at q.gap q.xs s (e + 1))
       size = rw add-one (base_holds sums gap q.gap q.xs R.gap_is R.sums_are R.small s e l en)
@@ -231,11 +231,11 @@ module _ (q : Ghost) (sums : List Float) (gap : Float) (fit : List ℕ) (prev : 
 
     -- no nonzero end: the far end
     pub choose_only : ((t : ℕ) → ¬ Nonzero (length q.xs) (ends fit) q.G (ZeroAt q.xs) q.k s t) → Choice q fit prev s to
-    choose_only h = rw far_is (merge_only (length q.xs) (ends fit) q.G (ZeroAt q.xs) (square_at q.gap q.xs) row_laws q.k s R.Some-after r.feas (λ t. square_at q.gap q.xs s t + value prev t) h)
+    choose_only h = rw far_is (merge_only (length q.xs) (ends fit) q.G (ZeroAt q.xs) (square_at q.gap q.xs) row_laws q.k s R.some_after r.feas (λ t. square_at q.gap q.xs s t + value prev t) h)
 
     module _ (near : ℕ) (A : NearChoice q fit prev s near) where
       to_next : to + 1 < length q.xs
-      to_next = omega (arith, far_feas.room, R.Some-after)
+      to_next = omega (arith, far_feas.room, R.some_after)
 
       abbrev near_f : Float
       near_f = cost_f sums prev (base_f sums gap s) near
@@ -250,7 +250,7 @@ module _ (q : Ghost) (sums : List Float) (gap : Float) (fit : List ℕ) (prev : 
       far_n = square_at q.gap q.xs s (to + 1) + value prev (to + 1)
 
       choose_plain : zero_f sums gap to ≡ false → Choice q fit prev s near
-      choose_plain t = merge_plain (length q.xs) (ends fit) q.G (ZeroAt q.xs) (square_at q.gap q.xs) row_laws q.k s R.Some-after r.feas (λ t. square_at q.gap q.xs s t + value prev t)
+      choose_plain t = merge_plain (length q.xs) (ends fit) q.G (ZeroAt q.xs) (square_at q.gap q.xs) row_laws q.k s R.some_after r.feas (λ t. square_at q.gap q.xs s t + value prev t)
           (rw (← far_is) (zero_no to to_next t)) (near + 1) A
 
       near_holds : Holds near_f near_n
@@ -262,11 +262,11 @@ module _ (q : Ghost) (sums : List Float) (gap : Float) (fit : List ℕ) (prev : 
       far_holds = cost_holds s to far_start (stands s to r far_start (omega arith) far_feas)
 
       choose_near : le far_f near_f ≡ false → Choice q fit prev s near
-      choose_near t = merge_near (length q.xs) (ends fit) q.G (ZeroAt q.xs) (square_at q.gap q.xs) row_laws q.k s R.Some-after r.feas (λ t. square_at q.gap q.xs s t + value prev t) (near + 1) A
+      choose_near t = merge_near (length q.xs) (ends fit) q.G (ZeroAt q.xs) (square_at q.gap q.xs) row_laws q.k s R.some_after r.feas (λ t. square_at q.gap q.xs s t + value prev t) (near + 1) A
           (inl (rw (← far_is) (le_false far_f near_f far_n near_n far_holds near_holds t)))
 
       choose_far : zero_f sums gap to ≡ true → le far_f near_f ≡ true → Choice q fit prev s to
-      choose_far z t = rw far_is (merge_far (length q.xs) (ends fit) q.G (ZeroAt q.xs) (square_at q.gap q.xs) row_laws q.k s R.Some-after r.feas (λ t. square_at q.gap q.xs s t + value prev t) (near + 1) A
+      choose_far z t = rw far_is (merge_far (length q.xs) (ends fit) q.G (ZeroAt q.xs) (square_at q.gap q.xs) row_laws q.k s R.some_after r.feas (λ t. square_at q.gap q.xs s t + value prev t) (near + 1) A
           (rw (← far_is) (either (eq-or-lt_of_le (le_true far_f near_f far_n near_n far_holds near_holds t)))))
         where
           before : near + 1 < to + 1
@@ -309,7 +309,7 @@ module _ (sums : List Float) (gap : Float) (fit : List ℕ) (prev : List Float) 
     scan_of = record {
       from_a = omega (arith, f.lo);
       from_s = omega (arith, f.lo);
-      zeros = λ e p l h. zero-yes q sums gap fit prev maxEnd R e (omega (arith, f.hi (omega arith), S.reach, R.max_end, R.Some-after)) (f.zeros e (omega arith) h);
+      zeros = λ e p l h. zero-yes q sums gap fit prev maxEnd R e (omega (arith, f.hi (omega arith), S.reach, R.max_end, R.some_after)) (f.zeros e (omega arith) h);
       stop_is = stop_is;
       feas = EF.feas;
     }
@@ -327,7 +327,7 @@ module _ (sums : List Float) (gap : Float) (fit : List ℕ) (prev : List Float) 
         })
       where
         inside : (e : ℕ) → e < stop → e + 1 < length q.xs
-        inside e h = omega (arith, S.reach, R.max_end, R.Some-after)
+        inside e h = omega (arith, S.reach, R.max_end, R.some_after)
 
         A : Argmin (λ e. (first ≤ e) × (e < stop) × (zero_f sums gap e ≡ false)) (λ e. square_at q.gap q.xs s (e + 1) + value prev (e + 1)) near
         A = l.least (λ e. square_at q.gap q.xs s (e + 1) + value prev (e + 1))
