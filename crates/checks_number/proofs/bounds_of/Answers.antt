@@ -1,7 +1,6 @@
 -- `checks_number::bounds_of` meets its contract: the code's numbers, by their bits, are the table's. Assumes nothing.
 use mathlib.Core.Path.{◌≡◌, refl, sym, ap, ◌∙◌}
 use mathlib.Core.Bool.{true, false}
-use borrow.Author.Rules.{rules}
 use lib.Ieee.{binary32, neg, of_int, of_bits}
 use Rattle.checks.specs.declared.Kind.{Kind}
 use Rattle.checks.specs.declared.Kind.TheVariants.{Length, Margin, Size, Factor, Worked}

@@ -1,7 +1,6 @@
 -- `checks_number::is_fine` meets its contract: `fine_is` of proofs/Fine. Assumes nothing.
 use mathlib.Core.Path.{ap, ap₂, ◌∙◌}
 use mathlib.Core.Bool.{Bool, ◌&&◌, ◌||◌}
-use borrow.Author.Rules.{rules}
 use Rattle.checks_number.specs.declared.Bounds.{Bounds}
 use Rattle.checks_number.proofs.Fine.{free_is, fine_is}
 use Rattle.checks_number.proofs.is_fine.Goals as goal

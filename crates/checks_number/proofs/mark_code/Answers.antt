@@ -1,5 +1,4 @@
 -- `checks_number::mark_code` meets its contract: a code fails check 5 alone. Assumes nothing.
-use borrow.Author.Rules.{rules}
 use borrow.Author.Tests.{lt-ltb, le-ltb}
 use Rattle.checks.specs.Domain.{not_finite, off_grid, out_of_range}
 use Rattle.checks.specs.Marks.{mark}

@@ -1,5 +1,4 @@
 -- The mark of a number that may be absent: where it is given, its own; else none. Assumes nothing.
-use borrow.Author.Rules.{rules}
 use mathlib.Core.Path.{sym, ap, ◌∙◌}
 use mathlib.Core.Bool.{Bool}
 use Rattle.checks.specs.Domain.{float}

@@ -1,7 +1,6 @@
 -- `checks_number::off_grid` meets its contract: a kind that is free of the grid is never off it. Assumes nothing.
 use mathlib.Core.Path.{◌≡◌, refl, ap, ap₂, ◌∙◌}
 use mathlib.Core.Bool.{Bool, true, false, not, ◌&&◌}
-use borrow.Author.Rules.{rules}
 use Rattle.checks.specs.Domain.{gridded, off_grid}
 use Rattle.checks_number.specs.declared.Bounds.{Bounds}
 use Rattle.checks_number.proofs.Fine.{free_is}

@@ -7,10 +7,9 @@ use lib.Dec.{T, ltb, eqb}
 use lib.IntN.{pos}
 use lib.Ieee.{binary32, is_nan, of_bits, of_int, in_float, to_bits}
 use lib.Ieee.Scale.{finite}
-use borrow.Author.Rules.{rules}
 use Rattle.grid.specs.Grid.{on_grid}
 use Rattle.grid.specs.Bits.{Lowest}
-use Rattle.grid.proofs.Fields.{lead_some, lead_place, power_in, power_real, power_bits, bits_grid}
+use Rattle.grid.proofs.Fields.{lead_place, power_in, power_real, power_bits, bits_grid}
 use Rattle.grid.proofs.bits_are_multiple.Goals as goal
 
 -- the power of 2 by the place of its digit, and the bits of its float

@@ -1,11 +1,9 @@
 -- `grid::is_multiple` meets its contract: the bits of a float that is no NaN are that float's. Assumes nothing.
-use mathlib.Core.Path.{ap, ◌∙◌, subst}
-use lib.Dec.{T, not_T}
-use lib.Ieee.{binary32, is_nan}
+use mathlib.Core.Path.{ap, ◌∙◌}
+use lib.Ieee.{binary32}
 use lib.Ieee.Scale.{finite}
 use lib.Ieee.Bits.{of_bits-to_bits}
 use denote.Floats.{passes}
-use borrow.Author.Rules.{rules}
 use Rattle.grid.specs.Grid.{on_grid}
 use Rattle.grid.proofs.is_multiple.Goals as goal
 

@@ -1,7 +1,6 @@
 -- `grid::lowest_digit` meets its contract: the law of proofs/Lowest. Assumes nothing.
 use Prim.Native.Nat.{◌+◌, ◌-◌}
 use native.Mathlib.Omega.{arith}
-use borrow.Author.Rules.{rules}
 use Rattle.grid.proofs.Lowest.{lowest_and}
 use Rattle.grid.proofs.lowest_digit.Goals as goal
 

@@ -1,7 +1,6 @@
 -- `grid::on_grid` meets its contract: what is not finite is not on the grid. Assumes nothing.
 use mathlib.Core.Path.{ap, ◌∙◌}
 use mathlib.Core.Bool.{Bool, ◌&&◌}
-use borrow.Author.Rules.{rules}
 use Rattle.grid.proofs.Fields.{finite_grid}
 use Rattle.grid.proofs.on_grid.Goals as goal
 

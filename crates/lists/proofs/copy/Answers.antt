@@ -1,7 +1,7 @@
 -- `lists::copy` meets its contract: the cells before i are those of the list. Assumes nothing.
-use mathlib.Core.Path.{◌≡◌, refl, sym, ap, ◌∙◌}
+use mathlib.Core.Path.{◌≡◌, sym, ap, ◌∙◌}
 use mathlib.Core.List.{List, [], ◌∷◌, ◌++◌}
-use Prim.Native.Nat.{ℕ, suc, ◌+◌, ◌-◌, ◌≤◌, ◌<◌}
+use Prim.Native.Nat.{ℕ, suc, ◌+◌, ◌<◌}
 use native.Mathlib.Numerals.{add-one}
 use lib.Ieee.{Float, nan}
 use native.Mathlib.Omega.{arith}
@@ -24,4 +24,3 @@ pub returns : goal.returns
 returns c = let l = c.loop-i in
     let xs = c.args.xs.now in
     sym (take_all l.i l.to (omega arith)) ∙ l.invariant.2 ∙ take_all l.i xs (omega arith)
-
