@@ -23,7 +23,7 @@ use Rattle.flex_reach.proofs.Times.{product, product_near, product_close, mul_nu
 use Rattle.flex_reach.proofs.Clamp.{Upto, bounded, clamp_num}
 use Rattle.flex_reach.proofs.Totals.{count}
 use Rattle.flex_reach.proofs.Turn.{far_off, whole_of}
-use Rattle.flex_reach.proofs.Space.{margin, sizes, margin_lies}
+use Rattle.flex_reach.proofs.Space.{margin, margin_lies}
 use Rattle.flex_reach.proofs.Domain.{unit, unit_px, plus, minus, Gridded, size_grid, size_upto, margin_grid, fine}
 
 -- ---- integers, above 0 and below it

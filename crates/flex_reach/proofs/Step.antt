@@ -21,7 +21,7 @@ use Rattle.flex_reach.proofs.Units.{px, Num, far, held_num, one_side}
 use Rattle.flex_reach.proofs.Times.{product, product_mono, product_within, product_zero}
 use Rattle.flex_reach.proofs.Clamp.{Upto, bounded, bounded-under}
 use Rattle.flex_reach.proofs.Totals.{count, count_map, count_same, count_long, count-one, Above}
-use Rattle.flex_reach.proofs.Turn.{Fine, far_off, under, part, part_most, Shares}
+use Rattle.flex_reach.proofs.Turn.{Fine, far_off, part, part_most, Shares}
 use Rattle.flex_reach.proofs.Parts.{parts}
 use Rattle.flex_reach.proofs.Space.{margin, Sound, Room, room, haves, useds, sizes}
 use Rattle.flex_reach.proofs.Limits.{Limited, limited_num, all_left, left_short, factors, weights, weights_big}

@@ -9,7 +9,7 @@ use lib.Dec.{T, lit≤}
 use lib.Ieee.{Float, binary32, eq, add, sub, neg}
 use Rattle.flex.specs.declared.Item.{Item}
 use Rattle.flex.specs.declared.Share.{Share}
-use Rattle.grid.specs.Floats.{raised, nought, ◌⊕◌, ◌⊖◌, ◌⊗◌, ◌⊘◌}
+use Rattle.grid.specs.Floats.{nought, ◌⊕◌, ◌⊖◌, ◌⊗◌, ◌⊘◌}
 use Rattle.flex.specs.Flex.{clamp, inner_base, factor, weight, flexed}
 use Rattle.flex_reach.proofs.Units.{px, Num, far, fl, fl_near, held_num, one_side, neg_num}
 use Rattle.flex_reach.proofs.Plus.{Sum, sum_num, sum_near, sum-under, sum_side, sum_keeps}
