@@ -1,4 +1,3 @@
-pub mod Again
 pub mod Columns
 pub mod Laid
 pub mod Stored
