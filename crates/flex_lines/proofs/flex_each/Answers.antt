@@ -17,14 +17,6 @@ loop-line-init c =
     let a = c.args in
     going_none a.inner a.gap (item_in a.table.now) a.counts.now a.targets.now a.free.now a.rounds.now
 
-pub offset_bounds-counts-line : goal.offset_bounds-counts-line
-offset_bounds-counts-line c =
-    let a = c.args in
-    let l = c.loop-line in
-    let t = turn_of a.inner a.gap a.table.now a.n a.counts.now a.targets.now a.free.now a.rounds.now c.requires
-    l.targets l.free l.rounds l.sum l.start l.line l.invariant c.loop-line-test.true in
-    omega (arith, t.line_few)
-
 pub overflow_add-end : goal.overflow_add-end
 overflow_add-end c =
     let a = c.args in
@@ -71,14 +63,6 @@ put_i32-requires c =
     l.targets l.free l.rounds l.sum l.start l.line l.invariant c.loop-line-test.true in
     t.free_room
 
-pub offset_bounds-rounds-line : goal.offset_bounds-rounds-line
-offset_bounds-rounds-line c =
-    let a = c.args in
-    let l = c.loop-line in
-    let t = turn_of a.inner a.gap a.table.now a.n a.counts.now a.targets.now a.free.now a.rounds.now c.requires
-    l.targets l.free l.rounds l.sum l.start l.line l.invariant c.loop-line-test.true in
-    omega (arith, t.line_few)
-
 pub bounds-rounds-line : goal.bounds-rounds-line
 bounds-rounds-line c =
     let a = c.args in
@@ -101,14 +85,6 @@ overflow_add-sum c =
       c.flex_items-f.ensures.few,
       length-each k (λ i. item_in a.table.now (l.start + i)),
     )
-
-pub overflow_add-line : goal.overflow_add-line
-overflow_add-line c =
-    let a = c.args in
-    let l = c.loop-line in
-    let t = turn_of a.inner a.gap a.table.now a.n a.counts.now a.targets.now a.free.now a.rounds.now c.requires
-    l.targets l.free l.rounds l.sum l.start l.line l.invariant c.loop-line-test.true in
-    omega (arith, t.line_few)
 
 pub loop-line-preserved : goal.loop-line-preserved
 loop-line-preserved c =
