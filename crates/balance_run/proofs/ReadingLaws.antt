@@ -50,7 +50,7 @@ module _ (opts : List ℕ) (n K : ℕ) (counts : List ℕ) (start lines i : ℕ)
   -- the next line's start
   read-within : 1 < lines → (R : RowsReadable opts n K) (u : ℕ) → Usable (length R.xs) (ends R.fit) (count_at R.greedy) (ZeroAt R.xs) (lines - 1) start u → Within R.reach (i + 1) u
   read-within h R u g =
-      within_next (length R.xs) R.fit R.reach (count_at R.greedy) (ZeroAt R.xs) (lines - 1) i start u R.Fit-length R.reaches (omega (arith, P.sum, R.start.room)) (P.within R) g
+      within_next (length R.xs) R.fit R.reach (count_at R.greedy) (ZeroAt R.xs) (lines - 1) i start u R.fit_length R.reaches (omega (arith, P.sum, R.start.room)) (P.within R) g
 
   pub read_more : (x : ℕ) → 1 < lines → i < length counts → x ≡ get_or opts ((lines - 2) * n + start) 0 - start + 1 → RowsReadable opts n K
       → ReadSoFar opts n K (set counts i x) (get_or opts ((lines - 2) * n + start) 0 + 1) (lines - 1) (i + 1)
