@@ -15,8 +15,8 @@ use Rattle.export_answer.specs.Crossing.{c_answer}
 use Rattle.export_flex.specs.declared.CFlexed.{CFlexed}
 use Rattle.export_flex.specs.Flexed.{c_flexed, FlexedFromC, FlexedLinesFromC}
 
-pub one_line_lem : (inner gap : Float) (ls : Lists) (old : List Float) (r s : CFlexed) (a b : List Float) → FlexedFromC inner gap ls r old a → FlexedFromC inner gap ls s old b → (r ≡ s) × (a ≡ b)
-one_line_lem inner gap ls old r s a b p q =
+pub one_line : (inner gap : Float) (ls : Lists) (old : List Float) (r s : CFlexed) (a b : List Float) → FlexedFromC inner gap ls r old a → FlexedFromC inner gap ls s old b → (r ≡ s) × (a ≡ b)
+one_line inner gap ls old r s a b p q =
     let d = line_determined _ _ ls old p.inside q.inside a b p.flexed q.flexed in
     (p.told ∙ ap (λ (x : FlexAnswer). c_flexed (values_of x)) d.0 ∙ sym q.told, d.1)
 
