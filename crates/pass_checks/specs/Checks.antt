@@ -1,6 +1,6 @@
 -- What the pass takes and checks (document 01, "Domain and refusal numbers"): the container's numbers, the items' on
 -- both axes, and the room of the lent lists. Assumes nothing.
-use Rattle.std.specs.Prelude.{Bool, true, ◌&&◌, List, ◌∷◌, ◌++◌, ℕ, ◌+◌, ◌*◌, eqb, leb, Float}
+use Rattle.std.specs.Prelude.{Bool, true, ◌&&◌, List, ◌∷◌, ◌++◌, ℕ, ◌*◌, eqb, leb, Float}
 use Rattle.grid.specs.Grid.{cleaned}
 use Rattle.checks.specs.Domain.{Number, float, code, Input, checked, shape, summed, then}
 use Rattle.checks.specs.declared.Verdict.{Verdict}
