@@ -1,0 +1,28 @@
+-- `balance_division::divide` meets its contract: what the call has accepted is what the run is given, and the run's lists are kept as long as they were.
+use Rattle.std.proofs.Common.{length, arith}
+use Rattle.balance_division.proofs.Accepted.{not_nan, sizes_not_nan, run_given, divided, none_divided}
+use Rattle.balance_division.proofs.divide.Goals as goal
+
+pub returns-then-sizes-eq0-clause-fact_1 : goal.returns-then-sizes-eq0-clause-fact_1
+returns-then-sizes-eq0-clause-fact_1 c =
+    let a = c.args in
+    none_divided a.limit a.gap a.minimum a.sizes.now a.counts.now c.if-sizes-eq0.true c.requires.fact_2.0
+
+pub to_size-requires : goal.to_size-requires
+to_size-requires c = not_nan _ c.requires.fact_1.spacing
+
+pub counts_of_sizes-lines-requires-clause-fact_1 : goal.counts_of_sizes-lines-requires-clause-fact_1
+counts_of_sizes-lines-requires-clause-fact_1 c =
+    let a = c.args in
+    let b = c.requires.fact_1 in (
+      run_given a.limit a.gap a.sizes.now b c.to_size.result.0 c.cap.result.bounded c.cap.result.most.0 c.to_size.ensures c.cap.ensures,
+      omega (arith, c.if-sizes-eq0.false),
+      b.few,
+      sizes_not_nan a.limit a.gap a.sizes.now b,
+    )
+
+pub returns-clause-fact_1 : goal.returns-clause-fact_1
+returns-clause-fact_1 c =
+    let a = c.args in
+    let cs = c.counts_of_sizes-lines in
+    divided a.limit a.gap a.sizes.now c.requires.fact_1 c.to_size.result.0 c.cap.result.bounded c.cap.result.most.0 a.minimum cs.result cs.new.counts c.to_size.ensures c.cap.ensures cs.ensures
