@@ -1,7 +1,7 @@
 -- Lists of which cells are cleared, in steps: the cells of a part, and then more cells behind them. Assumes nothing.
 use mathlib.Core.Path.{◌≡◌, ap, ◌∙◌}
 use mathlib.Core.List.{List, ◌++◌}
-use Prim.Native.Nat.{ℕ, ◌+◌, ◌-◌, ◌≤◌}
+use Prim.Native.Nat.{ℕ, ◌≤◌}
 use lib.ListN.{length, take, drop, replicate}
 use lib.Seq.{length-take-le}
 
