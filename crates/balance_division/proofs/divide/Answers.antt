@@ -1,5 +1,5 @@
 -- `balance_division::divide` meets its contract: what the call has accepted is what the run is given, and the run's lists are kept as long as they were.
-use Rattle.std.proofs.Common.{length, arith}
+use Rattle.std.proofs.Common.{arith}
 use Rattle.balance_division.proofs.Accepted.{not_nan, sizes_not_nan, run_given, divided, none_divided}
 use Rattle.balance_division.proofs.divide.Goals as goal
 
