@@ -1,4 +1,3 @@
 pub mod Fields
-pub mod Frame
 pub mod Seen
 pub mod Unique
