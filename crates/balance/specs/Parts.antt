@@ -20,7 +20,8 @@ pub record SearchLists : Type 0 where
   pub prev : List Float
   pub cur : List Float
 
-abbrev pub search_lists : List ℕ → List ℕ → List ℕ → List ℕ → List ℕ → List Float → List Float → List Float → SearchLists
+abbrev pub search_lists : List ℕ → List ℕ → List ℕ → List ℕ → List ℕ → List Float → List Float → List Float
+    → SearchLists
 search_lists counts opts fit greedy reach sums prev cur = record {
   counts = counts;
   opts = opts;

@@ -31,7 +31,8 @@ Valid limit gap xs (c ∷ d) = Line limit gap xs c (length d) × Valid limit gap
 -- "A line's score is its size squared." The total over the lines.
 abbrev pub score : ℤ → List ℤ → List ℕ → ℕ
 score gap xs [] = 0
-score gap xs (c ∷ d) = nat_abs (line_size gap (take c xs)) * nat_abs (line_size gap (take c xs)) + score gap (drop c xs) d
+score gap xs (c ∷ d) =
+    nat_abs (line_size gap (take c xs)) * nat_abs (line_size gap (take c xs)) + score gap (drop c xs) d
 
 -- the first line at which d and e differ holds more items in d
 abbrev pub MoreFirst : List ℕ → List ℕ → Type 0

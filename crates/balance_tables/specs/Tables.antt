@@ -61,7 +61,8 @@ pub record Falling (greedy : List ℕ) : Type 0 where
 
 -- where line j starts no further than cell j, line j + 1 starts no further than the next cell
 pub record Reaches (fit reach : List ℕ) : Type 0 where
-  pub step : (j s : ℕ) → j + 1 < length fit → s ≤ get_or reach j 0 → s < length fit → ends fit s ≤ get_or reach (j + 1) 0
+  pub step : (j s : ℕ) → j + 1 < length fit → s ≤ get_or reach j 0 → s < length fit
+      → ends fit s ≤ get_or reach (j + 1) 0
 
 -- the first start that needs at most `lines` lines
 pub record FirstFor (greedy : List ℕ) (lines r : ℕ) : Type 0 where

@@ -27,7 +27,8 @@ breaking_input codes limit gap sizes = record {
 
 -- "The sum over items of (|outer main size| + gap)"
 abbrev pub sizes_sum : Float → List Float → ℕ
-sizes_sum gap sizes = sum_up_to (λ i. nat_abs (sixty_fourths (get_or sizes i nan)) + nat_abs (sixty_fourths gap)) (length sizes)
+sizes_sum gap sizes =
+    sum_up_to (λ i. nat_abs (sixty_fourths (get_or sizes i nan)) + nat_abs (sixty_fourths gap)) (length sizes)
 
 -- checks 1 to 6 of a breaking call; `room` says that the lent lists are long enough
 unfoldable pub breaking_verdict : List Number → AvailableSpace → Float → List Float → Bool → Verdict

@@ -37,7 +37,8 @@ unfoldable pub records_from : ℕ → ℕ → List ℕ → Rest
 unfolding ending
 records_from zero place bytes = faulty place
 records_from (suc most) place bytes =
-    by_record (later_front bytes) place (records_from most (place + 5) (drop 5 bytes)) (ending (place + 1) (drop 1 bytes))
+    by_record (later_front bytes) place (records_from most (place + 5) (drop 5 bytes))
+    (ending (place + 1) (drop 1 bytes))
 
 -- items, and the end: there are no more records than bytes
 unfoldable pub item_records : ℕ → List ℕ → Rest

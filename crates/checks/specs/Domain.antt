@@ -104,7 +104,8 @@ checked input rest =
 -- checks 1 and 2: "an input list has more than 1,024 items"; "lists of unequal length, or too little lent room"
 abbrev pub shape : ℕ → Bool → Verdict
 shape longest room =
-    or_else (ltb 1024 longest) (verdict.Refused TooManyItems) (or_else (not room) (verdict.Refused TooLittleRoom) Passed)
+    or_else (ltb 1024 longest) (verdict.Refused TooManyItems)
+    (or_else (not room) (verdict.Refused TooLittleRoom) Passed)
 
 -- check 6: the sum over items of (|outer main size| + gap), in sixty-fourths, "is at most 16,777,216"
 abbrev pub summed : ℕ → Verdict

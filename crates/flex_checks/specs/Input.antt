@@ -25,8 +25,8 @@ flex_shape ls room = shapes.shape_of (lengths ls) (room ∷ []) (count ls)
 
 -- of item i those that are always there: base, minimum, padding plus border, grow and shrink
 abbrev pub plain_at : List Float → List Float → List Float → List Float → List Float → ℕ → List Number
-plain_at b l e g s i = float Size (get_or b i nan) ∷ float Size (get_or l i nan) ∷ float Size (get_or e i nan) ∷ float Factor
-    (get_or g i nan) ∷ float Factor (get_or s i nan) ∷ []
+plain_at b l e g s i = float Size (get_or b i nan) ∷ float Size (get_or l i nan) ∷ float Size (get_or e i nan) ∷
+    float Factor (get_or g i nan) ∷ float Factor (get_or s i nan) ∷ []
 
 -- and the maximum and the margins, each beside its code
 abbrev pub input_of : Float → Float → Lists → Input

@@ -36,8 +36,8 @@ pub record Ahead {A : Type 0} (none : A) (k : ℕ) (old new : List A) : Type 0 w
 -- the first k lines are flexed
 pub record Flowed (inner gap : Float) (item : ℕ → Item) (counts : List ℕ) (k sum : ℕ) (targets₀ : List Float)
     (free₀ : List ℤ) (rounds₀ : List ℕ) (targets : List Float) (free : List ℤ) (rounds : List ℕ) : Type 0 where
-  pub line : (j : ℕ) → j < k → Flexed inner gap (line_items item counts j) (get_or free j (pos 0)) (get_or rounds j 0) []
-      (part counts j targets)
+  pub line : (j : ℕ) → j < k → Flexed inner gap (line_items item counts j) (get_or free j (pos 0)) (get_or rounds j 0)
+      [] (part counts j targets)
   pub sum_is : sum ≡ sum_up_to (λ j. get_or rounds j 0) k
   pub long : length targets ≡ length targets₀
   pub past : drop (line_start counts k) targets ≡ drop (line_start counts k) targets₀

@@ -30,4 +30,5 @@ content_of c = cond (ltb c 5) (Unsafe (position_of c)) (cond (ltb c 10) (Safe (p
 
 -- `align-self`: 0 to 4 a position, 5 to 9 a safe one, 10 stretch
 unfoldable pub self_of : ℕ → SelfAlignment
-self_of c = cond (ltb c 5) (self.Unsafe (position_of c)) (cond (ltb c 10) (self.Safe (position_of (c - 5))) self.Stretch)
+self_of c =
+    cond (ltb c 5) (self.Unsafe (position_of c)) (cond (ltb c 10) (self.Safe (position_of (c - 5))) self.Stretch)

@@ -36,7 +36,8 @@ pub record LinesPlaced (c : Container) (n : ℕ) (x : List Float) (codes counts 
 abbrev pub PlacedAcross : Container → ℕ → List Float → List ℕ → List ℕ → List Float → List Float → List Float
     → List Float → List Float → List Float → List Float → List Float → List Float → Type 0
 PlacedAcross c n x codes counts lines =
-    AcrossLines (is_reversed (wrap_mode c)) counts lines (cross_items n x codes) (align_self n codes) (auto_size n codes)
+    AcrossLines (is_reversed (wrap_mode c)) counts lines (cross_items n x codes) (align_self n codes)
+    (auto_size n codes)
 
 -- in lists 4 to 7 by item: cross size, cross offset, used margins
 pub record ItemsAcross (c : Container) (n : ℕ) (x : List Float) (codes counts : List ℕ)

@@ -44,11 +44,13 @@ across_result r z s e o = record { answer = r; sizes = z; starts = s; ends = e; 
 -- a refusal changes no cell; the call works out no lines and no rounds
 abbrev pub across_into : Verdict → Float → ℕ → CrossLists → List ℕ → List ℕ → List Float → List Float → List Float
     → List Float → AcrossResult
-across_into (verdict.Refused why) line reversed ls alignment auto-size z s e o = across_result (answer.Refused why) z s e o
+across_into (verdict.Refused why) line reversed ls alignment auto-size z s e o =
+    across_result (answer.Refused why) z s e o
 across_into Passed line reversed ls alignment auto-size z s e o =
     let back = not (eqb reversed 0) in
-    across_result (Done 0 0) (used_sizes line back ls alignment auto-size z) (used_starts line back ls alignment auto-size s)
-    (used_ends line back ls alignment auto-size e) (item_offsets line back ls alignment auto-size o)
+    across_result (Done 0 0) (used_sizes line back ls alignment auto-size z)
+    (used_starts line back ls alignment auto-size s) (used_ends line back ls alignment auto-size e)
+    (item_offsets line back ls alignment auto-size o)
 
 -- THE CALL ("Cross axis"): it refuses by checks 1 to 5 and changes nothing, or it leaves the items' used sizes, used
 -- margins and offsets

@@ -62,7 +62,8 @@ container_size c alignment lines = or_bounded c (inner_size c) (lines_and_gaps c
 
 -- "free is that size less lines, then less gaps"
 unfoldable pub free_cross : Cross → ContentAlignment → List Float → Float
-free_cross c alignment lines = container_size c alignment lines ⊖ total_up_to (grown_at (line_gain c alignment lines) lines)
+free_cross c alignment lines =
+    container_size c alignment lines ⊖ total_up_to (grown_at (line_gain c alignment lines) lines)
     (length lines) ⊖ gaps c.gap (length lines)
 
 -- ---- the answers of a container whose numbers are read: its inner cross size, and lent cells as the call leaves them

@@ -122,7 +122,8 @@ pub fn distribute_remaining_free_space<'a>(
     used_end: &mut [f32],
 )
     requires main_one_length { MainOneLength (line_lists targets.now start.now end.now auto_start.now auto_end.now) }
-    requires targets_in_bounds { (length targets.now ≤ length offsets.old) × (length targets.now ≤ length used_start.old)
+    requires targets_in_bounds { (length targets.now ≤ length offsets.old)
+        × (length targets.now ≤ length used_start.old)
         × (length targets.now ≤ length used_end.old) }
     ensures { Spaced inner gap justify reversed (line_lists targets.now start.now
         end.now auto_start.now auto_end.now) offsets.old
