@@ -54,14 +54,14 @@ pub fn divide(
     prev: &mut [f64],
     cur: &mut [f64],
 ) -> usize
-    requires fact_1 { Breakable limit gap sizes.now }
-    requires fact_2 { (length counts.old ≡ length sizes.now)
+    requires breakable { Breakable limit gap sizes.now }
+    requires room { (length counts.old ≡ length sizes.now)
         × (length opts.old ≡ length sizes.now * length sizes.now) × (length fit.old ≡ length sizes.now)
         × (length greedy.old ≡ length sizes.now) × (length reach.old ≡ length sizes.now)
         × (length sums.old ≡ length sizes.now) × (length prev.old ≡ length sizes.now)
         × (length cur.old ≡ length sizes.now) }
-    ensures fact_1 { BalancedCounts limit gap minimum sizes.now result counts.new }
-    ensures fact_2 { Cleared opts.old opts.new × ClearedF sums.old sums.new }
+    ensures balanced_counts { BalancedCounts limit gap minimum sizes.now result counts.new }
+    ensures cleared { Cleared opts.old opts.new × ClearedF sums.old sums.new }
 {
     if sizes.len() == 0 {
         return 0;

@@ -48,9 +48,9 @@ fn line_item_counts(
     opts: &mut [u32],
     counts: &mut [u32],
 ) -> usize
-    requires fact_1 { BalanceIn sums.now gap.0 limit.bounded limit.most.0 × (1 ≤ length sums.now)
+    requires given { BalanceIn sums.now gap.0 limit.bounded limit.most.0 × (1 ≤ length sums.now)
         × (length sums.now ≤ 1024) }
-    requires fact_2 { (length prev.old ≡ length sums.now)
+    requires room { (length prev.old ≡ length sums.now)
         × (length cur.old ≡ length sums.now) × (length fit.old ≡ length sums.now)
         × (length greedy.old ≡ length sums.now) × (length reach.old ≡ length sums.now)
         × (length opts.old ≡ length sums.now * length sums.now) × (length counts.old ≡ length sums.now) }
@@ -86,9 +86,9 @@ pub fn counts_of_sizes(
     opts: &mut [u32],
     counts: &mut [u32],
 ) -> usize
-    requires fact_1 { RunIn sizes.now gap.0 limit.bounded limit.most.0 × (1 ≤ length sizes.now)
+    requires given { RunIn sizes.now gap.0 limit.bounded limit.most.0 × (1 ≤ length sizes.now)
         × (length sizes.now ≤ 1024) × ((i : ℕ) → i < length sizes.now → T (not (is_nan (get_or sizes.now i nan)))) }
-    requires fact_2 { (length sums.old ≡ length sizes.now) × (length prev.old ≡ length sizes.now)
+    requires room { (length sums.old ≡ length sizes.now) × (length prev.old ≡ length sizes.now)
         × (length cur.old ≡ length sizes.now) × (length fit.old ≡ length sizes.now)
         × (length greedy.old ≡ length sizes.now) × (length reach.old ≡ length sizes.now)
         × (length opts.old ≡ length sizes.now * length sizes.now) × (length counts.old ≡ length sizes.now) }

@@ -7,7 +7,7 @@ use Rattle.balance_run.proofs.counts_of_sizes.Goals as goal
 pub returns : goal.returns
 returns c =
     let a = c.args in
-    let q = c.requires.fact_2 in
+    let q = c.requires.room in
     let au = c.add_up in
     let ba = c.line_item_counts-k in
     let cl = c.clear_u32 in

@@ -7,10 +7,10 @@ use Rattle.balance_run.proofs.line_item_counts.Goals.{After-first_row}
 -- the tables, where the rows are called
 made : (c : After-first_row) → Made c.args.sums.now c.args.gap.0 c.args.limit.bounded c.args.limit.most.0 c.args.minimum c.first_row.new.prev c.fit_ends.new.fit c.suffix_greedy.new.greedy c.forward.new.reach c.larger-line_count.result
 made c =
-    let q = c.requires.fact_2 in
+    let q = c.requires.room in
     record {
-      some = c.requires.fact_1.1;
-      few = c.requires.fact_1.2;
+      some = c.requires.given.1;
+      few = c.requires.given.2;
       prev_length = c.first_row.auto.prev ∙ q.0;
       fit_length = c.fit_ends.auto.fit ∙ q.2;
       greedy-length = c.suffix_greedy.auto.greedy ∙ q.3;
@@ -25,8 +25,8 @@ made c =
 pub forward-requires : goal.forward-requires
 forward-requires c =
     let a = c.args in
-    let p = c.requires.fact_1 in
-    let q = c.requires.fact_2 in
+    let p = c.requires.given in
+    let q = c.requires.room in
     let fe = c.fit_ends in
     let sg = c.suffix_greedy in
     let fl : length fe.new.fit ≡ length a.sums.now = fe.auto.fit ∙ q.2 in
@@ -40,14 +40,14 @@ forward-requires c =
 pub rows-requires : goal.rows-requires
 rows-requires c =
     let a = c.args in
-    let q = c.requires.fact_2 in
+    let q = c.requires.room in
     let prev = c.first_row.new.prev in
     let fit = c.fit_ends.new.fit in
     let greedy = c.suffix_greedy.new.greedy in
     let reach = c.forward.new.reach in
     let K = c.larger-line_count.result in
     let m = made (goal.at.rows-requires c).After-first_row in (
-      row_base a.sums.now a.gap.0 a.limit.bounded a.limit.most.0 a.minimum prev fit greedy reach K m c.requires.fact_1.0,
+      row_base a.sums.now a.gap.0 a.limit.bounded a.limit.most.0 a.minimum prev fit greedy reach K m c.requires.given.0,
       omega (arith, q.1, m.prev_length),
       k_lo a.sums.now a.gap.0 a.limit.bounded a.limit.most.0 a.minimum prev fit greedy reach K m,
       omega (arith, k_hi a.sums.now a.gap.0 a.limit.bounded a.limit.most.0 a.minimum prev fit greedy reach K m, m.prev_length),
@@ -57,7 +57,7 @@ rows-requires c =
 pub read_back-requires : goal.read_back-requires
 read_back-requires c =
     let a = c.args in
-    let q = c.requires.fact_2 in
+    let q = c.requires.room in
     let prev = c.first_row.new.prev in
     let fit = c.fit_ends.new.fit in
     let greedy = c.suffix_greedy.new.greedy in
@@ -66,8 +66,8 @@ read_back-requires c =
     let m = made (goal.at.read_back-requires c).After-first_row in
     let opts = c.rows.new.opts in
     let top = k_hi a.sums.now a.gap.0 a.limit.bounded a.limit.most.0 a.minimum prev fit greedy reach K m in (
-      readable a.sums.now a.gap.0 a.limit.bounded a.limit.most.0 a.minimum prev fit greedy reach K m c.rows.new.prev opts c.rows.ensures c.requires.fact_1.0,
-      c.requires.fact_1.2,
+      readable a.sums.now a.gap.0 a.limit.bounded a.limit.most.0 a.minimum prev fit greedy reach K m c.rows.new.prev opts c.rows.ensures c.requires.given.0,
+      c.requires.given.2,
       k_lo a.sums.now a.gap.0 a.limit.bounded a.limit.most.0 a.minimum prev fit greedy reach K m,
       top,
       omega (arith, top, q.6),
