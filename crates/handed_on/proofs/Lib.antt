@@ -1,0 +1,6 @@
+mod Read
+pub mod Lines
+pub mod LineSize
+pub mod Pass
+pub mod Beyond
+pub mod Promised
