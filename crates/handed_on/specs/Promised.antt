@@ -29,8 +29,8 @@ pub record Promised : Type 0 where
       (t : List Float) (f : List ℤ) (r : List ℕ) → FlexedByLine inner gap counts ls (answer.Done k sum) t₀ f₀ r₀ t f r
       → (i : ℕ) → i < count ls → Fine (float Worked (get_or t i nan))
   -- nor a main size that an accepted pass leaves
-  pub pass_reach : (c : Container) (n : ℕ) (x : List Float) (codes : List ℕ) (before : PassLent) → Singles (column n 4 x) n
-      → Singles (column n 5 x) n → (lines sum : ℕ) (inner : Float) (after : PassLent)
+  pub pass_reach : (c : Container) (n : ℕ) (x : List Float) (codes : List ℕ) (before : PassLent)
+      → Singles (column n 4 x) n → Singles (column n 5 x) n → (lines sum : ℕ) (inner : Float) (after : PassLent)
       → PassCall c n x codes before (Done lines sum inner) after
       → (i : ℕ) → i < n → Fine (float Worked (get_or (placed_main_size n after) i nan))
   -- nor the cross size that the call for a line's size answers

@@ -33,6 +33,7 @@ use Rattle.promises.proofs.CaptureFormat as capture_format
 use Rattle.promises.proofs.CaptureFeed as capture_feed
 use Rattle.promises.proofs.Capture as capture
 use Rattle.promises.proofs.Examples as examples
+use Rattle.worked.proofs.Worked as worked
 use Rattle.handed_on.proofs.Promised as handed_on
 use Rattle.promises.specs.Promises.{Fratolivem}
 
@@ -72,5 +73,6 @@ fratolivem = record {
   «capture_feed» = capture_feed.promised;
   «capture» = capture.promised;
   «examples» = examples.promised;
+  worked = worked.worked_holds;
   «handed_on» = handed_on.promised;
 }

@@ -19,7 +19,8 @@ pub record Promised : Type 0 where
   -- of every list that breaking accepts, min-content with any minimum, and max-content with 65,535, name the same
   -- division
   pub same_division : (gap : Float) (minimum : ℕ) (sizes : List Float) (d : List ℕ)
-      → capture_verdict (old gap minimum) sizes ≡ Passed → Named (old gap minimum) sizes d ↔ Named (one_each gap) sizes d
+      → capture_verdict (old gap minimum) sizes ≡ Passed
+      → Named (old gap minimum) sizes d ↔ Named (one_each gap) sizes d
   -- for any bytes: what the contract allows with min-content kept it allows as captures are read now, and nothing else
   pub same_allowed : (before : List ℕ) (r : Reply) (after l : List ℕ)
       → CaptureAnswered (reading as_written l) before r after ↔ CaptureAnswered (reading as_read l) before r after

@@ -9,7 +9,8 @@ use Rattle.capture_feed.proofs.Whole.{known_of, told_by}
 pub record Promised : Type 0 where
   -- a reader fed byte by byte says what the plain reading says of the whole, the head as it was written
   pub said : (room : List Float) (l : List ℕ) → length room ≡ 64 → length l ≤ 2 ^ 63
-      → let fd = fed (with_sizes started room) l in told_by (finished fd.reader) fd.sizes ≡ known_of (reading as_written l)
+      → let fd = fed (with_sizes started room) l in
+      told_by (finished fd.reader) fd.sizes ≡ known_of (reading as_written l)
   -- what is still to come is read as if it had come at once
   pub fed_resumes : (l rest : List ℕ) (fd : Fed) → ReaderReady fd.reader (length l) → length fd.sizes ≡ 64
       → resume (fed fd l) rest ≡ resume fd (l ++ rest)

@@ -15,7 +15,8 @@ pub record Promised : Type 0 where
       {a z a' z' : List ℕ} {u₀ s₀ e₀ o₀ u s e o u₀' s₀' e₀' o₀' u' s' e' o' : List Float}
       → AcrossLines reversed counts lines ls a z u₀ s₀ e₀ o₀ u s e o
       → AcrossLines reversed counts' lines' ls' a' z' u₀' s₀' e₀' o₀' u' s' e' o' → (j j' : ℕ) → j < length counts
-      → j' < length counts' → get_or lines j nan ≡ get_or lines' j' nan → cross_line counts j ls ≡ cross_line counts' j' ls'
+      → j' < length counts' → get_or lines j nan ≡ get_or lines' j' nan
+      → cross_line counts j ls ≡ cross_line counts' j' ls'
       → part counts j a ≡ part counts' j' a' → part counts j z ≡ part counts' j' z'
       → Same (part counts j u) (part counts j s) (part counts j e) (part counts j o) (part counts' j' u')
       (part counts' j' s') (part counts' j' e') (part counts' j' o')

@@ -35,11 +35,12 @@ use Rattle.promises.specs.CaptureFormat as capture_format
 use Rattle.promises.specs.CaptureFeed as capture_feed
 use Rattle.promises.specs.Capture as capture
 use Rattle.promises.specs.Examples as examples
+use Rattle.worked.specs.Worked as worked
 use Rattle.handed_on.specs.Promised as handed_on
 
 pub record Fratolivem : Type 2 where
-  -- ---- the answer of a capture, and each call inside, on any bits, ends, touches no cell that it was not lent, and meets
-  -- its contract
+  -- ---- the answer of a capture, and each call inside, on any bits, ends, touches no cell that it was not lent, and
+  -- meets its contract
   pub «capture::read» : {M : Type 1} → call_read.statement M
   pub «break_limit::break_limit» : {M : Type 1} → call_break_limit.statement M
   pub «break_greedy::greedy» : {M : Type 1} → call_greedy.statement M
@@ -75,4 +76,5 @@ pub record Fratolivem : Type 2 where
   pub «capture_feed» : capture_feed.Promised
   pub «capture» : capture.Promised
   pub «examples» : examples.Promised
+  pub worked : worked.Worked
   pub «handed_on» : handed_on.Promised
