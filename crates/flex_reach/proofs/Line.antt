@@ -3,7 +3,7 @@ use mathlib.Core.Path.{◌≡◌, refl, sym, ap, ◌∙◌, subst}
 use mathlib.Core.Logic.{◌⊎◌, inl, inr}
 use mathlib.Core.Bool.{Bool, true, false, not, cond, ◌&&◌}
 use mathlib.Core.List.{List, [], ◌∷◌, ◌++◌, map}
-use Prim.Native.Nat.{ℕ, zero, suc, ◌*◌, ◌<◌}
+use Prim.Native.Nat.{ℕ, zero, suc, ◌*◌, ◌≤◌, ◌<◌}
 use native.Mathlib.Nat.{le_trans, le_of_eq, zero-mul}
 use native.Mathlib.Omega.{arith}
 use lib.Dec.{T, eqb}
@@ -19,7 +19,7 @@ use Rattle.grid.proofs.Exact.{le_at}
 use Rattle.checks.specs.Domain.{float, code, not_finite, off_grid, out_of_range, in_range, summed, checked}
 use Rattle.checks.specs.Lists.{beside_at}
 use Rattle.checks.specs.Optional.{optional}
-use Rattle.checks.specs.Marks.{Fine, AllFine, SoundInput}
+use Rattle.checks.specs.Marks.{Fine, AllFine}
 use Rattle.checks.specs.declared.Kind.TheVariants as kind
 use Rattle.checks.specs.declared.Verdict.TheVariants.{Passed}
 use Rattle.checks.proofs.Checks.{accepted, then_passed, summed_passed, fine-append, fine-factor, T_of}
@@ -75,7 +75,7 @@ clean_above (inf s) h = h
 clean_above (fin s zero e) h = zero_above e
 clean_above (fin s (suc m) e) h = h
 
-size_read : {x : Float} → Fine (float kind.Size x) → IsSize (cleaned x)
+pub size_read : {x : Float} → Fine (float kind.Size x) → IsSize (cleaned x)
 unfolding off_grid out_of_range in_range
 size_read {x} f = record {
   grid = clean_grid x (T_of (on_grid x) f.grid);
@@ -94,7 +94,7 @@ no_margin : IsMargin nought
 unfolding on_grid within of_bits
 no_margin = record { grid = tt; small = tt }
 
-margin_given : (c : ℕ) (x : Float) → AllFine (code 1 c ∷ optional (eqb c 0) (float kind.Margin x)) → IsMargin (cond (eqb c 0) (cleaned x) nought)
+pub margin_given : (c : ℕ) (x : Float) → AllFine (code 1 c ∷ optional (eqb c 0) (float kind.Margin x)) → IsMargin (cond (eqb c 0) (cleaned x) nought)
 margin_given c x h = go (eqb c 0) h.1
   where
     go : (b : Bool) → AllFine (optional b (float kind.Margin x)) → IsMargin (cond b (cleaned x) nought)
@@ -108,13 +108,29 @@ maximum_given c x h = go (eqb c 1) h.1
     go true f = inr (size_read f.0)
     go false f = inl refl
 
+-- ---- what a later step checks
+
+pub handed_fine : {x : Float} → HandedOn x → Fine (float kind.Worked x)
+unfolding not_finite off_grid out_of_range in_range
+handed_fine {x} h = record { finite = no (finite x) h.not_3; grid = refl; range = no (within 16777216 x) h.not_5 }
+  where
+    no : (b : Bool) → T b → not b ≡ false
+    no true t = refl
+    no false t = absurd t
+
+-- cell i of what is written
+pub cell : (l rest : List Float) → Each HandedOn l → (i : ℕ) → i < length l → Fine (float kind.Worked (get_or (l ++ rest) i nan))
+cell [] rest h i k = absurd (native.Mathlib.Nat.not-suc-le-zero k)
+cell (x ∷ l) rest h zero k = handed_fine h.0
+cell (x ∷ l) rest h (suc i) k = cell l rest h.1 i (native.Mathlib.Nat.le_of_suc-le-suc k)
+
 -- ---- the call
 
 -- floats of 32 bits
 abbrev pub Singles : List Float → ℕ → Type 0
 Singles xs n = (i : ℕ) → i < n → T (fits binary32 (get_or xs i nan))
 
-each_is : (n : ℕ) (f : ℕ → Item) → ((i : ℕ) → i < n → IsItem (f i)) → Each IsItem (each n f)
+pub each_is : (n : ℕ) (f : ℕ → Item) → ((i : ℕ) → i < n → IsItem (f i)) → Each IsItem (each n f)
 unfolding each
 each_is zero f h = tt
 each_is (suc n) f h = snoc (each n f) (each_is n f (λ i l. h i (omega arith)))
@@ -132,16 +148,16 @@ unfolding after round
 long_after ln zero l = refl
 long_after ln (suc k) l = long_map _ (after ln k l) ∙ long_after ln k l
 
-long_targets : (inner gap : Float) (items : List Item) (n : ℕ) → length (targets inner gap items n) ≡ length items
+pub long_targets : (inner gap : Float) (items : List Item) (n : ℕ) → length (targets inner gap items n) ≡ length items
 long_targets inner gap items n = long_map (λ c. cleaned c.target) (after (line_of inner gap items) n (begun inner gap items)) ∙ long_after (line_of inner gap items) n (begun inner gap items) ∙ long_map (start_cell (grows inner gap items)) items
 
 module _ (inner gap : Float) (ls : Lists) (grow : Singles ls.grow (count ls)) (shrink : Singles ls.shrink (count ls)) where
-  item_is : SoundInput (input_of inner gap ls) → (i : ℕ) → i < count ls → IsItem (item_at ls i)
+  item_is : ((i : ℕ) → i < count ls → AllFine ((input_of inner gap ls).item i)) → (i : ℕ) → i < count ls → IsItem (item_at ls i)
   item_is s i h =
       let M = beside_at kind.Size 1 ls.maximum ls.has_maximum i in
       let S = beside_at kind.Margin 0 ls.start ls.auto_start i in
       let E = beside_at kind.Margin 0 ls.end ls.auto_end i in
-      let a = fine-append (plain_at ls.base ls.minimum ls.edges ls.grow ls.shrink i) (M ++ (S ++ E)) (s.items i h) in
+      let a = fine-append (plain_at ls.base ls.minimum ls.edges ls.grow ls.shrink i) (M ++ (S ++ E)) (s i h) in
       let b = fine-append M (S ++ E) a.1 in
       let d = fine-append S E b.1 in
       record {
@@ -155,32 +171,22 @@ module _ (inner gap : Float) (ls : Lists) (grow : Singles ls.grow (count ls)) (s
         end = margin_given (get_or ls.auto_end i 0) (get_or ls.end i nan) d.1;
       }
 
+  pub line_of_checks : Fine (float kind.Size inner) → Fine (float kind.Size gap) → ((i : ℕ) → i < count ls → AllFine ((input_of inner gap ls).item i)) → count ls ≤ 1024 → summed (outer_sum (cleaned gap) (items_of ls)) ≡ Passed
+      → IsLine (cleaned inner) (cleaned gap) (items_of ls)
+  line_of_checks i g s few sum = record {
+    inner_is = size_read i;
+    gap_is = size_read g;
+    items_are = each_is (count ls) (item_at ls) (item_is s);
+    few = le_trans (le_of_eq (length-each (count ls) (item_at ls))) few;
+    sum = summed_passed (outer_sum (cleaned gap) (items_of ls)) sum;
+  }
+
   pub line_is : (room : ℕ) → line_verdict inner gap ls room ≡ Passed → IsLine (cleaned inner) (cleaned gap) (items_of ls)
   unfolding line_verdict
   line_is room e =
       let p = then_passed (flex_shape ls room) (checked (input_of inner gap ls) (summed (outer_sum (cleaned gap) (items_of ls)))) e in
       let q = accepted (input_of inner gap ls) (summed (outer_sum (cleaned gap) (items_of ls))) p.1 in
-      record {
-        inner_is = size_read q.0.container.0;
-        gap_is = size_read q.0.container.1.0;
-        items_are = each_is (count ls) (item_at ls) (item_is q.0);
-        few = le_trans (le_of_eq (length-each (count ls) (item_at ls))) (even_of ls room p.0).0.few;
-        sum = summed_passed (outer_sum (cleaned gap) (items_of ls)) q.1;
-      }
-
-  handed_fine : {x : Float} → HandedOn x → Fine (float kind.Worked x)
-  unfolding not_finite off_grid out_of_range in_range
-  handed_fine {x} h = record { finite = no (finite x) h.not_3; grid = refl; range = no (within 16777216 x) h.not_5 }
-    where
-      no : (b : Bool) → T b → not b ≡ false
-      no true t = refl
-      no false t = absurd t
-
-  -- cell i of what is written
-  cell : (l rest : List Float) → Each HandedOn l → (i : ℕ) → i < length l → Fine (float kind.Worked (get_or (l ++ rest) i nan))
-  cell [] rest h i k = absurd (native.Mathlib.Nat.not-suc-le-zero k)
-  cell (x ∷ l) rest h zero k = handed_fine h.0
-  cell (x ∷ l) rest h (suc i) k = cell l rest h.1 i (native.Mathlib.Nat.le_of_suc-le-suc k)
+      line_of_checks q.0.container.0 q.0.container.1.0 q.0.items (even_of ls room p.0).0.few q.1
 
   -- the targets that an accepted call writes are numbers that a later step takes
   pub line_reach : (free : Sixtyfourths) (rounds : ℕ) (old new : List Float) → FlexedLine inner gap ls (Done free rounds) old new → (i : ℕ) → i < count ls → Fine (float kind.Worked (get_or new i nan))

@@ -1,4 +1,3 @@
-mod Read
 pub mod Lines
 pub mod LineSize
 pub mod Pass

@@ -40,7 +40,7 @@ use Rattle.flex_reach.proofs.Plus.{sum_num, sum-under}
 use Rattle.flex_reach.proofs.Clamp.{Upto}
 use Rattle.flex_reach.proofs.Limits.{factors_big}
 use Rattle.flex_reach.proofs.Domain.{within_far, size_upto, margin_grid, handed_on}
-use Rattle.handed_on.proofs.Read.{size_read, margin_given, handed_fine}
+use Rattle.flex_reach.proofs.Line.{size_read, margin_given, handed_fine}
 
 -- ---- numbers
 

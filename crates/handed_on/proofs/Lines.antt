@@ -32,7 +32,7 @@ use Rattle.flex_lines_call.specs.Lines.{room_of, lines_verdict, FlexedByLine}
 use Rattle.flex_reach.specs.Reach.{IsItem, IsLine, Each}
 use Rattle.flex_reach.proofs.Reach.{reach}
 use Rattle.flex_reach.proofs.Line.{Singles}
-use Rattle.handed_on.proofs.Read.{cell, each_is, long_targets, line_of_checks}
+use Rattle.flex_reach.proofs.Line.{cell, each_is, long_targets, line_of_checks}
 
 -- the sum of a part is at most that of all
 outer_parts : (gap : Float) (g : ℕ → Item) (a c : ℕ) → outer_sum gap (each (a + c) g) ≡ outer_sum gap (each a g) + outer_sum gap (each c (λ i. g (a + i)))

@@ -19,7 +19,7 @@ use Rattle.lists.proofs.Each.{length-each}
 use Rattle.flex.specs.Items.{item_at, items_of}
 use Rattle.flex_reach.specs.Reach.{IsLine}
 use Rattle.flex_reach.proofs.Line.{Singles}
-use Rattle.handed_on.proofs.Read.{line_of_checks}
+use Rattle.flex_reach.proofs.Line.{line_of_checks}
 use Rattle.handed_on.proofs.Lines.{all_reach}
 use Rattle.pass_container.specs.declared.Container.{Container}
 use Rattle.pass_container.specs.Columns.{column, main_lists}
