@@ -3,6 +3,7 @@ use Rattle.std.specs.Prelude.{false, cond, List, ℕ, eqb, length, get_or, Float
 use Rattle.std.specs.Float.{nan, inf}
 use Rattle.grid.specs.Grid.{cleaned}
 use Rattle.flex.specs.declared.Item.{Item}
+use Rattle.flex.specs.declared.items.ItemLists.{ItemLists}
 use Rattle.lists.specs.Cells.{each}
 use Rattle.grid.specs.Floats.{nought}
 
@@ -39,6 +40,11 @@ lists b l h k e g s x y u v = record {
   auto_start = u;
   auto_end = v;
 }
+
+-- the lists of a bundle
+abbrev pub lists_of : ItemLists → Lists
+lists_of l = lists l.base.now l.minimum.now l.maximum.now l.has_maximum.now l.edges.now l.grow.now l.shrink.now
+    l.start.now l.end.now l.auto_start.now l.auto_end.now
 
 abbrev pub count : Lists → ℕ
 count ls = length ls.base

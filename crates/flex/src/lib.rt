@@ -3,8 +3,11 @@
 // are answers, the sign of the free space, and sums that are whole sixty-fourths.
 #![tactic(auto)]
 
+pub mod items;
 pub mod sharing;
 pub mod sizes;
+
+pub use items::ItemLists;
 
 // An item as it is read: no number is -0.0, an auto margin is 0, and an absent maximum is infinite.
 #[derive(Clone, Copy)]
