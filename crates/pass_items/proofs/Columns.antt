@@ -6,9 +6,8 @@ use native.Mathlib.Nat.{add_assoc, add_comm, add-zero, zero-add, suc-add, zero-m
 use native.Mathlib.Omega.{arith}
 use mathlib.Core.List.{List, [], ◌∷◌, ◌++◌, map, map-append, append_assoc, append-nil}
 use lib.ListN.{length, set, take, drop, get_or, length-set, length-map, length-append, length-drop, take-append-drop, drop_of_length-le}
-use lib.Seq.{length-take-le, take-suc, drop-cons, set-append_left, set_at, append_snoc, drop-drop, take_at, drop-append-add}
+use lib.Seq.{length-take-le, take-suc, drop-cons, set-append_left, set_at, append_snoc, drop-drop, take_at, drop-append-add, get_or-take}
 use Rattle.pass_items.specs.Parts.{stored}
-use Rattle.pass_items.proofs.Stored.{length-stored}
 
 module _ {A : Type 0} (m : ℕ) where
   -- a store behind a front leaves the front alone
@@ -131,9 +130,11 @@ module _ {A X : Type 0} (m : ℕ) (xs : List X) where
   laid fields d l zero = l
   laid fields d l (suc i) = stored m (laid fields d l i) i (fields (get_or xs i d))
 
-  pub length_laid : (fields : X → List A) (d : X) (l : List A) (i : ℕ) → length (laid fields d l i) ≡ length l
-  length_laid fields d l zero = refl
-  length_laid fields d l (suc i) = length-stored m (fields (get_or xs i d)) (laid fields d l i) i ∙ length_laid fields d l i
+  -- one item more
+  pub laid_next : (fields : X → List A) (d : X) (l : List A) (i : ℕ) (now more vs : List A) → i < m → now ≡ laid fields d l i → vs ≡ fields (get_or (take m xs) i d) → more ≡ stored m now i vs → more ≡ laid fields d l (i + 1)
+  laid_next fields d l i now more vs h was is put =
+      let e : suc i ≡ i + 1 = omega arith in
+      put ∙ ap (λ (u : List A). stored m u i vs) was ∙ ap (stored m (laid fields d l i) i) (is ∙ ap fields (get_or-take m xs i d h)) ∙ ap (laid fields d l) e
 
   laid_front : (fs : List (X → A)) (d : X) (l : List A) (i : ℕ) → i ≤ m → m ≤ length xs → length fs * m ≤ length l → laid (values fs) d l i ≡ front fs i l
   laid_front fs d l zero le few h = sym (front-none fs l)

@@ -3,36 +3,31 @@ use mathlib.Core.Path.{◌≡◌, subst}
 use Prim.Native.Nat.{ℕ, ◌*◌, ◌≤◌, ◌<◌}
 use native.Mathlib.Nat.{le_refl}
 use mathlib.Core.List.{List, [], ◌∷◌, ◌++◌, map}
-use mathlib.Core.Bool.{false}
-use lib.IntN.{pos}
-use lib.Ieee.{Float, fin}
+use lib.Ieee.{Float, nan}
 use lib.ListN.{length, take, drop, get_or}
 use lib.Seq.{take-length}
 use Rattle.pass_items.specs.declared.Item.{Item}
 use Rattle.pass_items.specs.Items.{numbers_of, codes_of}
 use Rattle.pass_items.specs.Parts.{numbers_in, codes_in}
-use Rattle.pass_items.proofs.Columns.{laid, length_laid, laid_all, taken_all, joined_at}
+use Rattle.pass_items.proofs.Columns.{laid, laid_all, taken_all, joined_at}
 
 -- what stands past the end of a list of items
-abbrev pub nought : Float
-nought = fin false 0 (pos 0)
-
 abbrev pub blank : Item
 blank = record {
-  main_base = nought;
-  main_minimum = nought;
-  main_maximum = nought;
-  main_edges = nought;
-  grow = nought;
-  shrink = nought;
-  main_start = nought;
-  main_end = nought;
-  cross_measured = nought;
-  cross_minimum = nought;
-  cross_maximum = nought;
-  cross_edges = nought;
-  cross_start = nought;
-  cross_end = nought;
+  main_base = nan;
+  main_minimum = nan;
+  main_maximum = nan;
+  main_edges = nan;
+  grow = nan;
+  shrink = nan;
+  main_start = nan;
+  main_end = nan;
+  cross_measured = nan;
+  cross_minimum = nan;
+  cross_maximum = nan;
+  cross_edges = nan;
+  cross_start = nan;
+  cross_end = nan;
   has_main_maximum = 0;
   auto_main_start = 0;
   auto_main_end = 0;
@@ -43,21 +38,12 @@ blank = record {
   auto_cross_size = 0;
 }
 
-abbrev pub item_at : List Item → ℕ → Item
-item_at xs i = get_or xs i blank
-
 -- the lists once i of m items are stored
 abbrev pub numbers_laid : ℕ → List Item → List Float → ℕ → List Float
 numbers_laid m xs l i = laid m xs numbers_in blank l i
 
 abbrev pub codes_laid : ℕ → List Item → List ℕ → ℕ → List ℕ
 codes_laid m xs l i = laid m xs codes_in blank l i
-
-pub length_numbers : (m : ℕ) (xs : List Item) (l : List Float) (i : ℕ) → length (numbers_laid m xs l i) ≡ length l
-length_numbers m xs l i = length_laid m xs numbers_in blank l i
-
-pub length_codes : (m : ℕ) (xs : List Item) (l : List ℕ) (i : ℕ) → length (codes_laid m xs l i) ≡ length l
-length_codes m xs l i = length_laid m xs codes_in blank l i
 
 abbrev pub number_fields : List (Item → Float)
 number_fields =
@@ -84,10 +70,10 @@ pub taken_codes : (m : ℕ) (xs : List Item) (rest : List ℕ) → m ≤ length 
 taken_codes m xs rest few = taken_all m xs (λ (x : Item). x.has_main_maximum) code_fields rest few
 
 -- list k of so many cells is field k of the items, in an item's own order
-pub numbers_at : (xs : List Item) (k : ℕ) → k < 14 → take (length xs) (drop (k * length xs) (numbers_of xs)) ≡ map (get_or ((λ (x : Item). x.main_base) ∷ number_fields) k (λ (x : Item). nought)) xs
+pub numbers_at : (xs : List Item) (k : ℕ) → k < 14 → take (length xs) (drop (k * length xs) (numbers_of xs)) ≡ map (get_or ((λ (x : Item). x.main_base) ∷ number_fields) k (λ (x : Item). nan)) xs
 numbers_at xs k h =
-    subst (λ (ys : List Item). take (length xs) (drop (k * length xs) (numbers_of ys)) ≡ map (get_or ((λ (x : Item). x.main_base) ∷ number_fields) k (λ (x : Item). nought)) ys) (take-length xs)
-    (joined_at (length xs) xs (λ (x : Item). x.main_base) number_fields k (λ (x : Item). nought) (le_refl (length xs)) h)
+    subst (λ (ys : List Item). take (length xs) (drop (k * length xs) (numbers_of ys)) ≡ map (get_or ((λ (x : Item). x.main_base) ∷ number_fields) k (λ (x : Item). nan)) ys) (take-length xs)
+    (joined_at (length xs) xs (λ (x : Item). x.main_base) number_fields k (λ (x : Item). nan) (le_refl (length xs)) h)
 
 pub codes_at : (xs : List Item) (k : ℕ) → k < 8 → take (length xs) (drop (k * length xs) (codes_of xs)) ≡ map (get_or ((λ (x : Item). x.has_main_maximum) ∷ code_fields) k (λ (x : Item). 0)) xs
 codes_at xs k h =

@@ -1,9 +1,8 @@
 // The items as a host has them: a slice of structs, unpacked into the plain lists that the pass reads, one list of
-// numbers and one of codes, by columns. Whatever touches the slice itself is thin: the work on one item is done on an
-// item by value.
+// numbers and one of codes, by columns.
 #![tactic(auto)]
 
-ghost use Rattle.std.specs.Prelude.{◌≡◌, ◌++◌, ◌+◌, ◌*◌, ◌<◌, ◌≤◌, min, length, take, drop};
+ghost use Rattle.std.specs.Prelude.{◌≡◌, ◌++◌, ◌*◌, ◌<◌, ◌≤◌, min, length, take, drop};
 ghost use Rattle.pass_items.specs.Items.{numbers_of, codes_of};
 ghost use Rattle.pass_items.specs.Parts.{numbers_in, codes_in, stored};
 
@@ -36,83 +35,61 @@ pub struct Item {
     pub auto_cross_size: u32,
 }
 
+impl Item {
+    // Its numbers, in the order of their columns.
+    fn numbers(self) -> [f32; 14]
+        ensures { result ≡ numbers_in self }
+    {
+        [
+            self.main_base,
+            self.main_minimum,
+            self.main_maximum,
+            self.main_edges,
+            self.grow,
+            self.shrink,
+            self.main_start,
+            self.main_end,
+            self.cross_measured,
+            self.cross_minimum,
+            self.cross_maximum,
+            self.cross_edges,
+            self.cross_start,
+            self.cross_end,
+        ]
+    }
+
+    // Its codes, in the order of theirs.
+    fn codes(self) -> [u32; 8]
+        ensures { result ≡ codes_in self }
+    {
+        [
+            self.has_main_maximum,
+            self.auto_main_start,
+            self.auto_main_end,
+            self.has_cross_maximum,
+            self.auto_cross_start,
+            self.auto_cross_end,
+            self.align_self,
+            self.auto_cross_size,
+        ]
+    }
+}
+
 // How many of n items are unpacked: all, but of more than 1,024 only so many that the pass still sees too many.
 pub fn held(n: usize) -> usize
     ensures { result ≡ min n 1025 }
 {
-    if n <= 1025 {
-        return n;
+    n.min(1025)
+}
+
+// The fields of item i of m, each into its column of m cells. No entry point.
+fn put_fields<T: Copy>(cells: &mut [T], m: usize, i: usize, fields: &[T])
+    requires { (i < m) × (length fields.now * m ≤ length cells.old) }
+    ensures { cells.new ≡ stored m cells.old i fields.now }
+{
+    for (k, &field) in fields.iter().enumerate() {
+        cells[k * m..][i] = field;
     }
-    1025
-}
-
-// An item's numbers, each into its column: the columns are m cells each. No entry point.
-fn put_numbers(nums: &mut [f32], m: usize, i: usize, x: Item)
-    requires { (i < m) × (14 * m ≤ length nums.old) }
-    ensures { nums.new ≡ stored m nums.old i (numbers_in x) }
-{
-    let mut at = i;
-    nums[at] = x.main_base;
-    at += m;
-    nums[at] = x.main_minimum;
-    at += m;
-    nums[at] = x.main_maximum;
-    at += m;
-    nums[at] = x.main_edges;
-    at += m;
-    nums[at] = x.grow;
-    at += m;
-    nums[at] = x.shrink;
-    at += m;
-    nums[at] = x.main_start;
-    at += m;
-    nums[at] = x.main_end;
-    at += m;
-    nums[at] = x.cross_measured;
-    at += m;
-    nums[at] = x.cross_minimum;
-    at += m;
-    nums[at] = x.cross_maximum;
-    at += m;
-    nums[at] = x.cross_edges;
-    at += m;
-    nums[at] = x.cross_start;
-    at += m;
-    nums[at] = x.cross_end;
-}
-
-// The same of its codes. No entry point.
-fn put_codes(codes: &mut [u32], m: usize, i: usize, x: Item)
-    requires { (i < m) × (8 * m ≤ length codes.old) }
-    ensures { codes.new ≡ stored m codes.old i (codes_in x) }
-{
-    let mut at = i;
-    codes[at] = x.has_main_maximum;
-    at += m;
-    codes[at] = x.auto_main_start;
-    at += m;
-    codes[at] = x.auto_main_end;
-    at += m;
-    codes[at] = x.has_cross_maximum;
-    at += m;
-    codes[at] = x.auto_cross_start;
-    at += m;
-    codes[at] = x.auto_cross_end;
-    at += m;
-    codes[at] = x.align_self;
-    at += m;
-    codes[at] = x.auto_cross_size;
-}
-
-// Item i of m into both lists; the number of the next one. No entry point.
-pub fn put(nums: &mut [f32], codes: &mut [u32], m: usize, i: usize, x: Item) -> usize
-    requires { (i < m) × ((14 * m ≤ length nums.old) × (8 * m ≤ length codes.old)) }
-    ensures { (result ≡ i + 1) × ((nums.new ≡ stored m nums.old i (numbers_in x))
-        × (codes.new ≡ stored m codes.old i (codes_in x))) }
-{
-    put_numbers(&mut *nums, m, i, x);
-    put_codes(&mut *codes, m, i, x);
-    i + 1
 }
 
 // The first m items, by columns; every cell past them is as it was. No entry point.
@@ -121,9 +98,8 @@ pub fn unpack(items: &[Item], m: usize, nums: &mut [f32], codes: &mut [u32])
     ensures { (nums.new ≡ numbers_of (take m items.now) ++ drop (14 * m) nums.old)
         × (codes.new ≡ codes_of (take m items.now) ++ drop (8 * m) codes.old) }
 {
-    let mut i = 0usize;
-    while i < m {
-        let x = items[i];
-        i = put(&mut *nums, &mut *codes, m, i, x);
+    for (i, item) in items[..m].iter().enumerate() {
+        put_fields(nums, m, i, &item.numbers());
+        put_fields(codes, m, i, &item.codes());
     }
 }
