@@ -3,8 +3,7 @@ use mathlib.Core.Path.{◌≡◌, sym, ap, ◌∙◌}
 use mathlib.Core.List.{List}
 use Prim.Native.Nat.{ℕ}
 use lib.Ieee.{Float}
-use Rattle.checks.specs.Domain.{Number}
-use Rattle.checks.specs.declared.Answer.{Answer}
+use Rattle.checks.specs.Domain.{Number, Answer}
 use Rattle.keywords.specs.declared.AvailableSpace.{AvailableSpace}
 use Rattle.break_greedy.specs.Calls.{GreedyResult, greedy_result, greedy_call}
 

@@ -3,18 +3,13 @@
 use Rattle.std.specs.Prelude.{Bool, List, [], ◌∷◌, ◌++◌, map, ℕ, ◌+◌, ◌-◌, leb, length, get_or, drop, replicate, ℤ, nat_abs, Float}
 use Rattle.std.specs.Float.{nan}
 use Rattle.grid.specs.Grid.{sixty_fourths}
-use Rattle.checks.specs.Domain.{Number, float, Input, checked, shape, summed, then}
+use Rattle.checks.specs.Domain.{Number, float, Input, checked, shape, summed, then, Answer, Verdict, done}
 use Rattle.lists.specs.Cells.{sum_up_to}
 use Rattle.checks.specs.declared.Kind.TheVariants.{Length, Size}
-use Rattle.checks.specs.declared.Verdict.{Verdict}
-use Rattle.checks.specs.declared.Verdict.TheVariants.{Passed}
-use Rattle.checks.specs.declared.Verdict.TheVariants as verdict
-use Rattle.checks.specs.declared.Answer.{Answer}
-use Rattle.checks.specs.declared.Answer.TheVariants.{Done}
-use Rattle.checks.specs.declared.Answer.TheVariants as answer
 use Rattle.keywords.specs.declared.AvailableSpace.{AvailableSpace}
 use Rattle.break_limit.specs.Limit.{space_numbers}
 use Rattle.break_greedy.specs.Breaking.{limit_of, greedy}
+use Rattle.std.specs.declared.result.Result.TheVariants.{Ok, Err}
 
 -- the numbers that a breaking call takes: codes that came before the limit, the limit, the gap, and the items' outer
 -- main sizes
@@ -53,8 +48,8 @@ abbrev pub greedy_result : Answer → List ℕ → GreedyResult
 greedy_result r counts = record { answer = r; counts = counts }
 
 abbrev pub broken_into : Verdict → List ℕ → ℕ → List ℕ → GreedyResult
-broken_into Passed lines n before = greedy_result (Done (length lines) 0) (count_cells n lines before)
-broken_into (verdict.Refused why) lines n before = greedy_result (answer.Refused why) before
+broken_into (Ok tt) lines n before = greedy_result (done (length lines) 0) (count_cells n lines before)
+broken_into (Err why) lines n before = greedy_result (Err why) before
 
 -- the whole greedy call, with the codes that came before the limit
 abbrev pub greedy_call : List Number → AvailableSpace → Float → List Float → List ℕ → GreedyResult

@@ -11,9 +11,9 @@ ghost use Rattle.break_greedy.specs.Calls.{breaking_verdict, units, greedy_resul
 ghost use Rattle.break_greedy.specs.Steps.{LengthLimit, Breakable, LineEnd, Counted, Listed};
 
 use break_limit::mark_space;
-use checks::{Answer, Kind, Mark, Verdict};
+use checks::{Done, Kind, Mark, Refusal};
 use keywords::AvailableSpace;
-use lists::clear_u32;
+use lists::clear;
 
 // Whether a line of several items, of this size, fits: greedy breaking asks it once the limit has passed the checks. No
 // entry point.
@@ -35,23 +35,17 @@ pub fn check_breaking(
     gap: f32,
     sizes: &[f32],
     room: bool,
-) -> Verdict
+) -> Result<(), Refusal>
     ensures { (cs : List Number) → codes.0 ≡ least_of cs 0
         → result ≡ breaking_verdict cs limit gap sizes.now room }
 {
-    let shape = checks::check_shape(sizes.len(), room);
-    let Verdict::Passed = shape else {
-        return shape;
-    };
+    checks::check_shape(sizes.len(), room)?;
     let container = checks::least(
         mark_space(limit),
         checks_number::mark_float(Kind::Size, gap, 0),
     );
     let items = checks_list::mark_floats(Kind::Length, sizes);
-    let numbers = checks::judge(checks::least(checks::least(codes, container), items));
-    let Verdict::Passed = numbers else {
-        return numbers;
-    };
+    checks::judge(checks::least(checks::least(codes, container), items))?;
     checks::check_sum(checks_list::sum_floats(sizes, gap))
 }
 
@@ -62,20 +56,17 @@ fn line_end(sizes: &[f32], gap: f32, limit: AvailableSpace, start: usize) -> usi
     ensures { LineEnd limit gap sizes.now start result }
 {
     let mut size = sizes[start];
-    let mut i = start + 1;
-    while i < sizes.len() {
+    for i in start + 1..sizes.len() {
         let next = size + (sizes[i] + gap);
-        if line_fits(limit, next) {
-            size = next;
-            i += 1;
-        } else {
+        if !line_fits(limit, next) {
             return i;
         }
+        size = next;
     }
-    i
+    sizes.len()
 }
 
-// The counts by line, in the first cells.
+// The counts by line, in the first cells. A `while`: how many lines there are shows only as the items are used up.
 fn greedy_counts(sizes: &[f32], gap: f32, limit: AvailableSpace, counts: &mut [u32]) -> usize
     requires { Breakable limit gap sizes.now × (length sizes.now ≤ length counts.old) }
     ensures { Counted (greedy (limit_of limit) (sixty_fourths gap) (units sizes.now))
@@ -99,30 +90,25 @@ pub fn greedy_checked(limit: AvailableSpace, gap: f32, sizes: &[f32], counts: &m
         (units sizes.now)) counts.old result counts.new }
 {
     let n = greedy_counts(sizes, gap, limit, counts);
-    clear_u32(counts, n, sizes.len());
+    clear(counts, n, sizes.len(), 0);
     n
 }
 
 // Greedy breaking of any bits.
-pub fn greedy(limit: AvailableSpace, gap: f32, sizes: &[f32], counts: &mut [u32]) -> Answer
+pub fn greedy(
+    limit: AvailableSpace,
+    gap: f32,
+    sizes: &[f32],
+    counts: &mut [u32],
+) -> Result<Done, Refusal>
     ensures { greedy_result result counts.new ≡ greedy_call [] limit gap sizes.now
         counts.old }
 {
-    let v = check_breaking(
-        checks::no_mark(),
-        limit,
-        gap,
-        sizes,
-        sizes.len() <= counts.len(),
-    );
-    match v {
-        Verdict::Refused(why) => Answer::Refused(why),
-        Verdict::Passed => {
-            let lines = greedy_checked(limit, gap, sizes, counts);
-            Answer::Done {
-                lines: lines as u32,
-                rounds: 0,
-            }
-        }
-    }
+    let room = sizes.len() <= counts.len();
+    check_breaking(checks::no_mark(), limit, gap, sizes, room)?;
+    let lines = greedy_checked(limit, gap, sizes, counts);
+    Ok(Done {
+        lines: lines as u32,
+        rounds: 0,
+    })
 }

@@ -2,13 +2,13 @@
 use mathlib.Core.Path.{◌≡◌, sym, ap, ◌∙◌}
 use mathlib.Core.List.{List, [], ◌++◌, append-nil}
 use Prim.Native.Nat.{ℕ, min, zero-le}
-use Rattle.checks.specs.declared.Verdict.TheVariants.{Passed}
 use Rattle.checks.specs.Domain.{Number}
 use Rattle.checks.specs.Marks.{least_of, least_up_to, least_mark, judged}
 use Rattle.checks.proofs.Checks.{judged-checked, least_append}
 use Rattle.checks.proofs.Verdicts.{then_last}
 use Rattle.break_limit.specs.declared.Query.{Query}
 use Rattle.break_limit.specs.Limit.{space_numbers, bound_numbers, limit_input, limit_verdict}
+use Rattle.std.specs.declared.result.Result.TheVariants.{Ok}
 
 none_more : (l : List Number) → least_of l 0 ≡ min (least_of l 0) 6144
 unfolding least_of
@@ -26,4 +26,4 @@ query_checked codes q =
     let b = bound_numbers q.maximum in
     ap judged (sym (least_append codes (s ++ (a ++ b)) 0 ∙ ap (min (least_of codes 0)) (least_append s (a ++ b) 0 ∙ ap (min (least_of s 0)) (least_append a b 0))) ∙ none_more (codes ++ (s ++ (a ++ b))))
     ∙ sym (then_last (judged (least_mark (limit_input codes q))))
-    ∙ judged-checked (limit_input codes q) zero-le Passed
+    ∙ judged-checked (limit_input codes q) zero-le (Ok tt)

@@ -2,20 +2,17 @@
 use Rattle.std.specs.Prelude.{Bool, cond, ◌||◌, List, [], ◌∷◌, ◌++◌, Float}
 use Rattle.grid.specs.Grid.{cleaned}
 use Rattle.grid.specs.Floats.{lowered}
-use Rattle.checks.specs.Domain.{Number, float, Input, checked}
+use Rattle.checks.specs.Domain.{Number, float, Input, checked, Verdict}
 use Rattle.checks.specs.declared.Kind.TheVariants.{Length, Size}
-use Rattle.checks.specs.declared.Verdict.{Verdict}
-use Rattle.checks.specs.declared.Verdict.TheVariants.{Passed}
-use Rattle.checks.specs.declared.Verdict.TheVariants as verdict
 use Rattle.keywords.specs.Space.{raised_to}
 use Rattle.keywords.specs.declared.AvailableSpace.{AvailableSpace}
 use Rattle.keywords.specs.declared.AvailableSpace.TheVariants.{Definite, MinContent, MaxContent}
-use Rattle.keywords.specs.declared.Bound.{Bound}
-use Rattle.keywords.specs.declared.Bound.TheVariants.{Absent, Given}
 use Rattle.break_limit.specs.declared.Query.{Query}
-use Rattle.break_limit.specs.declared.BreakLimit.{BreakLimit}
-use Rattle.break_limit.specs.declared.BreakLimit.TheVariants.{Limit}
-use Rattle.break_limit.specs.declared.BreakLimit.TheVariants as limit
+use Rattle.checks.specs.declared.Refusal.{Refusal}
+use Rattle.std.specs.declared.result.Result.{Result}
+use Rattle.keywords.specs.Space.{Bound}
+use Rattle.std.specs.declared.option.Option.TheVariants.{None, Some}
+use Rattle.std.specs.declared.result.Result.TheVariants.{Ok, Err}
 
 -- "take the available definite number, or the maximum where there is none"
 abbrev pub number_or : AvailableSpace → Float → Float
@@ -41,8 +38,8 @@ without_maximum q MaxContent = MaxContent
 
 -- "Else, with a maximum: .. the result is definite. With no maximum, .."
 abbrev pub by_maximum : Query → Bound → AvailableSpace
-by_maximum q Absent = without_maximum q q.available
-by_maximum q (Given maximum) = Definite (cleaned (raised_to q.minimum (under_maximum q maximum)))
+by_maximum q None = without_maximum q q.available
+by_maximum q (Some maximum) = Definite (cleaned (raised_to q.minimum (under_maximum q maximum)))
 
 -- "If the known main size isn't definite: max-content. Else .."
 abbrev pub break_limit : Query → AvailableSpace
@@ -57,8 +54,8 @@ space_numbers MinContent = []
 space_numbers MaxContent = []
 
 abbrev pub bound_numbers : Bound → List Number
-bound_numbers Absent = []
-bound_numbers (Given x) = float Size x ∷ []
+bound_numbers None = []
+bound_numbers (Some x) = float Size x ∷ []
 
 abbrev pub limit_input : List Number → Query → Input
 limit_input codes q = record {
@@ -68,11 +65,15 @@ limit_input codes q = record {
 }
 
 abbrev pub limit_verdict : List Number → Query → Verdict
-limit_verdict codes q = checked (limit_input codes q) Passed
+limit_verdict codes q = checked (limit_input codes q) (Ok tt)
+
+-- what the call answers: the space that a line may take, or a refusal
+abbrev pub BreakLimit : Type 0
+BreakLimit = Result AvailableSpace Refusal
 
 abbrev pub limit_from : Verdict → Query → BreakLimit
-limit_from Passed q = Limit (break_limit q)
-limit_from (verdict.Refused why) q = limit.Refused why
+limit_from (Ok tt) q = Ok (break_limit q)
+limit_from (Err why) q = Err why
 
 -- the whole call
 abbrev pub limit_call : Query → BreakLimit

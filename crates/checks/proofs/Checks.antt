@@ -24,30 +24,28 @@ use Rattle.checks.specs.declared.Place.{Place}
 use Rattle.checks.specs.declared.Place.TheVariants.{Container, At}
 use Rattle.checks.specs.declared.Refusal.{Refusal}
 use Rattle.checks.specs.declared.Refusal.TheVariants.{TooManyItems, TooLittleRoom, NotFinite, OffGrid, OutOfRange, SumTooLarge}
-use Rattle.checks.specs.declared.Verdict.{Verdict}
-use Rattle.checks.specs.declared.Verdict.TheVariants.{Passed, Refused}
-use Rattle.checks.specs.declared.Answer.TheVariants as answer
-use Rattle.checks.specs.Domain.{Number, float, code, in_range, not_below0, not_finite, off_grid, out_of_range, Input, any, first, or_else, check, checked, shape, summed, then, paper}
+use Rattle.checks.specs.Domain.{Number, float, code, in_range, not_below0, not_finite, off_grid, out_of_range, Input, any, first, or_else, check, checked, shape, summed, then, paper, Verdict}
 use Rattle.checks.specs.Marks.{mark, least_of, least_up_to, least_mark, place_of, judged, Fine, AllFine, SoundInput}
 use Rattle.checks.proofs.Order.{cond-le, mark_of, least_is, least_ext, items_are}
 use Rattle.checks.proofs.Verdicts.{not_both}
+use Rattle.std.specs.declared.result.Result.TheVariants.{Ok, Err}
 
 -- ---- a mark, judged
-judged_3 : (n p : ℕ) → n ≡ p → p < 2048 → judged n ≡ Refused (NotFinite (place_of p))
+judged_3 : (n p : ℕ) → n ≡ p → p < 2048 → judged n ≡ Err (NotFinite (place_of p))
 unfolding judged
 judged_3 n p e h = ap judged e ∙ simp (lt-ltb p 2048 h)
 
-judged_4 : (n p : ℕ) → n ≡ 2048 + p → p < 2048 → judged n ≡ Refused (OffGrid (place_of p))
+judged_4 : (n p : ℕ) → n ≡ 2048 + p → p < 2048 → judged n ≡ Err (OffGrid (place_of p))
 unfolding judged
 judged_4 n p e h = let d : 2048 + p - 2048 ≡ p = omega arith in ap judged e ∙ simp (le-ltb (2048 + p) 2048 (omega arith), lt-ltb (2048 + p) 4096 (omega arith), d)
 
-judged_5 : (n p : ℕ) → n ≡ 4096 + p → p < 2048 → judged n ≡ Refused (OutOfRange (place_of p))
+judged_5 : (n p : ℕ) → n ≡ 4096 + p → p < 2048 → judged n ≡ Err (OutOfRange (place_of p))
 unfolding judged
 judged_5 n p e h =
     let d : 4096 + p - 4096 ≡ p = omega arith in
     ap judged e ∙ simp (le-ltb (4096 + p) 2048 (omega arith), le-ltb (4096 + p) 4096 (omega arith), lt-ltb (4096 + p) 6144 (omega arith), d)
 
-judged-none : (n : ℕ) → n ≡ 6144 → judged n ≡ Passed
+judged-none : (n : ℕ) → n ≡ 6144 → judged n ≡ Ok tt
 unfolding judged
 judged-none n e = ap judged e
 
@@ -58,27 +56,27 @@ place_at i = ap place_of (add-one i)
 module _ (i j k : ℕ) (rest : Verdict) where
   in_order : (a p b q d r : Bool) → (p ≡ true → i < 1024) → (q ≡ true → j < 1024) → (r ≡ true → k < 1024)
       → then (judged (min (mark_of a b d 0) (cond p (0 + (i + 1)) (cond q (2048 + (j + 1)) (cond r (4096 + (k + 1)) 6144))))) rest
-      ≡ or_else a (Refused (NotFinite Container)) (or_else p (Refused (NotFinite (At i)))
-      (or_else b (Refused (OffGrid Container)) (or_else q (Refused (OffGrid (At j)))
-      (or_else d (Refused (OutOfRange Container)) (or_else r (Refused (OutOfRange (At k))) rest)))))
+      ≡ or_else a (Err (NotFinite Container)) (or_else p (Err (NotFinite (At i)))
+      (or_else b (Err (OffGrid Container)) (or_else q (Err (OffGrid (At j)))
+      (or_else d (Err (OutOfRange Container)) (or_else r (Err (OutOfRange (At k))) rest)))))
   in_order true p b q d r f g h = ap (λ (v : Verdict). then v rest) (judged_3 _ 0 (omega arith) (omega arith))
   in_order false true b q d r f g h =
       let l = f refl in
       let m : i + 1 ≤ cond b 2048 (cond d 4096 6144) = cond-le b (i + 1) 2048 (cond d 4096 6144) (omega arith) (cond-le d (i + 1) 4096 6144 (omega arith) (omega arith)) in
-      ap (λ (v : Verdict). then v rest) (judged_3 _ (i + 1) (omega arith) (omega arith) ∙ ap (λ (w : Place). Refused (NotFinite w)) (place_at i))
+      ap (λ (v : Verdict). then v rest) (judged_3 _ (i + 1) (omega arith) (omega arith) ∙ ap (λ (w : Place). Err (NotFinite w)) (place_at i))
   in_order false false true q d r f g h =
       let m : 2048 ≤ cond q (2048 + (j + 1)) (cond r (4096 + (k + 1)) 6144) = cond-le q 2048 (2048 + (j + 1)) (cond r (4096 + (k + 1)) 6144) (omega arith) (cond-le r 2048 (4096 + (k + 1)) 6144 (omega arith) (omega arith)) in
       ap (λ (v : Verdict). then v rest) (judged_4 _ 0 (omega arith) (omega arith))
   in_order false false false true d r f g h =
       let l = g refl in
       let m : 2048 + (j + 1) ≤ cond d 4096 6144 = cond-le d (2048 + (j + 1)) 4096 6144 (omega arith) (omega arith) in
-      ap (λ (v : Verdict). then v rest) (judged_4 _ (j + 1) (omega arith) (omega arith) ∙ ap (λ (w : Place). Refused (OffGrid w)) (place_at j))
+      ap (λ (v : Verdict). then v rest) (judged_4 _ (j + 1) (omega arith) (omega arith) ∙ ap (λ (w : Place). Err (OffGrid w)) (place_at j))
   in_order false false false false true r f g h =
       let m : 4096 ≤ cond r (4096 + (k + 1)) 6144 = cond-le r 4096 (4096 + (k + 1)) 6144 (omega arith) (omega arith) in
       ap (λ (v : Verdict). then v rest) (judged_5 _ 0 (omega arith) (omega arith))
   in_order false false false false false true f g h =
       let l = h refl in
-      ap (λ (v : Verdict). then v rest) (judged_5 _ (k + 1) (omega arith) (omega arith) ∙ ap (λ (w : Place). Refused (OutOfRange w)) (place_at k))
+      ap (λ (v : Verdict). then v rest) (judged_5 _ (k + 1) (omega arith) (omega arith) ∙ ap (λ (w : Place). Err (OutOfRange w)) (place_at k))
   in_order false false false false false false f g h = ap (λ (v : Verdict). then v rest) (judged-none _ (omega arith))
 
 -- the least mark's refusal is that of checks 3, 4 and 5 in their order, each with the container first and then the items from 0
@@ -129,21 +127,21 @@ least_both f g zero = sym (min-eq_left (le_refl 6144))
 least_both f g (suc n) = omega (arith, least_both f g n)
 
 -- ---- what a pass says of the checks
-or_else_lem : (b : Bool) (why : Refusal) (rest : Verdict) → or_else b (Refused why) rest ≡ Passed → (b ≡ false) × (rest ≡ Passed)
+or_else_lem : (b : Bool) (why : Refusal) (rest : Verdict) → or_else b (Err why) rest ≡ Ok tt → (b ≡ false) × (rest ≡ Ok tt)
 or_else_lem true why rest e = absurd (not_both e refl)
 or_else_lem false why rest e = (refl, e)
 
-pub then_passed : (v rest : Verdict) → then v rest ≡ Passed → (v ≡ Passed) × (rest ≡ Passed)
-then_passed Passed rest e = (refl, e)
-then_passed (Refused why) rest e = absurd (not_both e refl)
+pub then_passed : (v rest : Verdict) → then v rest ≡ Ok tt → (v ≡ Ok tt) × (rest ≡ Ok tt)
+then_passed (Ok tt) rest e = (refl, e)
+then_passed (Err why) rest e = absurd (not_both e refl)
 
-pub shape_passed : (longest : ℕ) (room : Bool) → shape longest room ≡ Passed → (longest ≤ 1024) × (room ≡ true)
+pub shape_passed : (longest : ℕ) (room : Bool) → shape longest room ≡ Ok tt → (longest ≤ 1024) × (room ≡ true)
 shape_passed longest room e =
     let p = or_else_lem (ltb 1024 longest) TooManyItems _ e in
-    (ltb-false 1024 longest p.0, not-false room (or_else_lem (not room) TooLittleRoom Passed p.1).0)
+    (ltb-false 1024 longest p.0, not-false room (or_else_lem (not room) TooLittleRoom (Ok tt) p.1).0)
 
-pub summed_passed : (total : ℕ) → summed total ≡ Passed → total ≤ 16777216
-summed_passed total e = leb-true total 16777216 (not-false (leb total 16777216) (or_else_lem (not (leb total 16777216)) SumTooLarge Passed e).0)
+pub summed_passed : (total : ℕ) → summed total ≡ Ok tt → total ≤ 16777216
+summed_passed total e = leb-true total 16777216 (not-false (leb total 16777216) (or_else_lem (not (leb total 16777216)) SumTooLarge (Ok tt) e).0)
 
 -- ---- what acceptance says of the numbers
 first-none : (q : ℕ → Bool) (n : ℕ) → n ≤ first q n → (i : ℕ) → i < n → q i ≡ false
@@ -160,7 +158,7 @@ record Clear (fails : Number → Bool) (input : Input) : Type 0 where
   inside : any fails input.container ≡ false
   each : (i : ℕ) → i < input.count → any fails (input.item i) ≡ false
 
-clear : (fails : Number → Bool) (refusal : Place → Refusal) (input : Input) (rest : Verdict) → check fails refusal input rest ≡ Passed → Clear fails input × (rest ≡ Passed)
+clear : (fails : Number → Bool) (refusal : Place → Refusal) (input : Input) (rest : Verdict) → check fails refusal input rest ≡ Ok tt → Clear fails input × (rest ≡ Ok tt)
 unfolding check
 clear fails refusal input rest e =
     let p = or_else_lem (any fails input.container) (refusal Container) _ e in
@@ -180,7 +178,7 @@ all_fine (x ∷ l) p q r =
     let r' = none_of (out_of_range x) (any out_of_range l) r in
     (record { finite = p'.0; grid = q'.0; range = r'.0 }, all_fine l p'.1 q'.1 r'.1)
 
-pub accepted : (input : Input) (rest : Verdict) → checked input rest ≡ Passed → SoundInput input × (rest ≡ Passed)
+pub accepted : (input : Input) (rest : Verdict) → checked input rest ≡ Ok tt → SoundInput input × (rest ≡ Ok tt)
 accepted input rest e =
     let p = clear not_finite NotFinite input _ e in
     let q = clear off_grid OffGrid input _ p.1 in
@@ -250,7 +248,7 @@ unfolding out_of_range
 fine_code {most} {c} f = ltb-false most c f.range
 
 -- ---- a refusal on paper: its number is one of 1 to 6, with no lines and no rounds
-pub refused_paper : (why : Refusal) → let p = paper (answer.Refused why) in (1 ≤ p.number) × (p.number ≤ 6) × (p.lines ≡ 0) × (p.rounds ≡ 0)
+pub refused_paper : (why : Refusal) → let p = paper (Err why) in (1 ≤ p.number) × (p.number ≤ 6) × (p.lines ≡ 0) × (p.rounds ≡ 0)
 refused_paper TooManyItems = (omega arith, omega arith, refl, refl)
 refused_paper TooLittleRoom = (omega arith, omega arith, refl, refl)
 refused_paper (NotFinite p) = (omega arith, omega arith, refl, refl)

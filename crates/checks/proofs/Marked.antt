@@ -6,13 +6,13 @@ use Prim.Native.Nat.{ℕ, ◌+◌, ◌≤◌, min, zero-le}
 use native.Mathlib.Omega.{arith}
 use borrow.Author.Tests.{eqb-true, leb-true}
 use lib.Dec.{eqb, leb}
-use Rattle.checks.specs.declared.Verdict.TheVariants.{Passed}
 use Rattle.checks.specs.Domain.{Number, Input, checked}
 use Rattle.checks.specs.Marks.{mark, least_of, least_up_to, least_mark, judged}
 use Rattle.checks.proofs.Order.{least_ext}
 use Rattle.checks.proofs.Checks.{judged-checked, least_append, least_one, least_both, shape_passed}
 use Rattle.checks.specs.Shapes.{longest, alike, roomy, shape_of}
 use Rattle.checks.proofs.Verdicts.{then_last}
+use Rattle.std.specs.declared.result.Result.TheVariants.{Ok}
 
 -- ---- marks
 
@@ -44,8 +44,8 @@ unfolding least_of
 container-two x y = ap (min (mark x 0)) (sym (least_one y 0 zero-le))
 
 -- the least mark, judged
-pub judged_is : (input : Input) → input.count ≤ 1024 → judged (least_mark input) ≡ checked input Passed
-judged_is input h = sym (then_last (judged (least_mark input))) ∙ judged-checked input h Passed
+pub judged_is : (input : Input) → input.count ≤ 1024 → judged (least_mark input) ≡ checked input (Ok tt)
+judged_is input h = sym (then_last (judged (least_mark input))) ∙ judged-checked input h (Ok tt)
 
 -- ---- shapes
 
@@ -74,7 +74,7 @@ longest-first : (n : ℕ) (l : List ℕ) → n ≤ longest (n ∷ l)
 longest-first n l = omega arith
 
 -- what checks 1 and 2 say where they pass
-pub shaped : (n : ℕ) (lengths rooms : List ℕ) → shape_of (n ∷ lengths) rooms n ≡ Passed → (n ≤ 1024) × All n lengths × Roomy n rooms
+pub shaped : (n : ℕ) (lengths rooms : List ℕ) → shape_of (n ∷ lengths) rooms n ≡ Ok tt → (n ≤ 1024) × All n lengths × Roomy n rooms
 shaped n lengths rooms e =
     let p = shape_passed (longest (n ∷ lengths)) (roomy n rooms (alike n (n ∷ lengths))) e in
     let q = roomy_all n rooms (alike n (n ∷ lengths)) p.1 in

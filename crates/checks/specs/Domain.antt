@@ -1,6 +1,6 @@
 -- Document 01, "Domain and refusal numbers", in its own order: what a number may be, the six checks, and what an answer
 -- says. Assumes nothing.
-use Rattle.std.specs.Prelude.{Bool, true, false, not, cond, ◌&&◌, ◌||◌, List, [], ◌∷◌, ℕ, zero, suc, ltb, leb, Float}
+use Rattle.std.specs.Prelude.{Bool, true, false, not, cond, ◌&&◌, ◌||◌, List, [], ◌∷◌, ℕ, zero, suc, ltb, leb, Float, ⊤}
 use Rattle.std.specs.Float.{binary32}
 use Rattle.std.specs.Float.Ieee.{le, of_bits}
 use Rattle.std.specs.Float.Ieee.Scale.{finite}
@@ -12,12 +12,9 @@ use Rattle.checks.specs.declared.Place.TheVariants.{Container, At}
 use Rattle.checks.specs.declared.Refusal.{Refusal}
 use Rattle.checks.specs.declared.Refusal.TheVariants.{TooManyItems, TooLittleRoom, NotFinite, OffGrid}
 use Rattle.checks.specs.declared.Refusal.TheVariants.{OutOfRange, SumTooLarge}
-use Rattle.checks.specs.declared.Verdict.{Verdict}
-use Rattle.checks.specs.declared.Verdict.TheVariants.{Passed}
-use Rattle.checks.specs.declared.Verdict.TheVariants as verdict
-use Rattle.checks.specs.declared.Answer.{Answer}
-use Rattle.checks.specs.declared.Answer.TheVariants.{Done}
-use Rattle.checks.specs.declared.Answer.TheVariants as answer
+use Rattle.checks.specs.declared.Done.{Done}
+use Rattle.std.specs.declared.result.Result.{Result}
+use Rattle.std.specs.declared.result.Result.TheVariants.{Ok, Err}
 
 -- ---- the numbers
 
@@ -84,6 +81,10 @@ unfoldable pub first : (ℕ → Bool) → ℕ → ℕ
 first p zero = zero
 first p (suc n) = cond (p zero) zero (suc (first (λ i. p (suc i)) n))
 
+-- what checks say: they pass, or refuse
+abbrev pub Verdict : Type 0
+Verdict = Result ⊤ Refusal
+
 abbrev pub or_else : Bool → Verdict → Verdict → Verdict
 or_else true v rest = v
 or_else false v rest = rest
@@ -93,8 +94,8 @@ unfoldable pub check : (Number → Bool) → (Place → Refusal) → Input → V
 unfolding any first
 check fails refusal input rest =
     let i = first (λ k. any fails (input.item k)) input.count in
-    or_else (any fails input.container) (verdict.Refused (refusal Container))
-    (or_else (ltb i input.count) (verdict.Refused (refusal (At i))) rest)
+    or_else (any fails input.container) (Err (refusal Container))
+    (or_else (ltb i input.count) (Err (refusal (At i))) rest)
 
 -- checks 3, 4 and 5 in that order, each over the whole input, and then the rest
 abbrev pub checked : Input → Verdict → Verdict
@@ -104,19 +105,26 @@ checked input rest =
 -- checks 1 and 2: "an input list has more than 1,024 items"; "lists of unequal length, or too little lent room"
 abbrev pub shape : ℕ → Bool → Verdict
 shape longest room =
-    or_else (ltb 1024 longest) (verdict.Refused TooManyItems)
-    (or_else (not room) (verdict.Refused TooLittleRoom) Passed)
+    or_else (ltb 1024 longest) (Err TooManyItems)
+    (or_else (not room) (Err TooLittleRoom) (Ok tt))
 
 -- check 6: the sum over items of (|outer main size| + gap), in sixty-fourths, "is at most 16,777,216"
 abbrev pub summed : ℕ → Verdict
-summed total = or_else (not (leb total 16777216)) (verdict.Refused SumTooLarge) Passed
+summed total = or_else (not (leb total 16777216)) (Err SumTooLarge) (Ok tt)
 
 -- v, and where it passed, the checks after it
 abbrev pub then : Verdict → Verdict → Verdict
-then Passed rest = rest
-then (verdict.Refused why) rest = verdict.Refused why
+then (Ok tt) rest = rest
+then (Err why) rest = Err why
 
 -- ---- the answer
+
+-- what a call answers: its lines and rounds, or a refusal
+abbrev pub Answer : Type 0
+Answer = Result Done Refusal
+
+abbrev pub done : ℕ → ℕ → Answer
+done lines rounds = Ok (record { lines = lines; rounds = rounds })
 
 -- where an answer points: nowhere, at the container, or at an item or line (of answer 7: a byte)
 pub data Where : Type 0 where
@@ -148,5 +156,5 @@ refusal_of (OutOfRange p) = refused_as 5 (where_of p)
 refusal_of SumTooLarge = refused_as 6 at_container
 
 abbrev pub paper : Answer → Paper
-paper (Done lines rounds) = record { number = 0; place = nowhere; lines = lines; rounds = rounds }
-paper (answer.Refused why) = refusal_of why
+paper (Ok d) = record { number = 0; place = nowhere; lines = d.lines; rounds = d.rounds }
+paper (Err why) = refusal_of why

@@ -5,15 +5,11 @@
 use Rattle.std.specs.Prelude.{◌≡◌, true, false, cond, List, [], ◌∷◌, ℕ, zero, suc, ◌+◌, ◌-◌, ◌<◌, min, T, ltb, length, get_or, Float}
 use Rattle.std.specs.Float.{nan}
 use Rattle.grid.specs.Values.{Length}
-use Rattle.checks.specs.Domain.{Number, not_finite, off_grid, out_of_range, Input, or_else}
+use Rattle.checks.specs.Domain.{Number, not_finite, off_grid, out_of_range, Input, or_else, Answer, Verdict, done}
 use Rattle.checks.specs.declared.Place.{Place}
 use Rattle.checks.specs.declared.Place.TheVariants.{Container, At}
 use Rattle.checks.specs.declared.Refusal.TheVariants.{NotFinite, OffGrid, OutOfRange}
-use Rattle.checks.specs.declared.Verdict.{Verdict}
-use Rattle.checks.specs.declared.Verdict.TheVariants.{Passed, Refused}
-use Rattle.checks.specs.declared.Answer.{Answer}
-use Rattle.checks.specs.declared.Answer.TheVariants.{Done}
-use Rattle.checks.specs.declared.Answer.TheVariants as answer
+use Rattle.std.specs.declared.result.Result.TheVariants.{Ok, Err}
 
 -- the place is 0 for the container and i + 1 for item i; 6144 is no mark
 unfoldable pub mark : Number → ℕ → ℕ
@@ -39,9 +35,9 @@ place_of (suc i) = At i
 
 -- what the least mark says
 unfoldable pub judged : ℕ → Verdict
-judged n = or_else (ltb n 2048) (Refused (NotFinite (place_of n)))
-    (or_else (ltb n 4096) (Refused (OffGrid (place_of (n - 2048))))
-    (or_else (ltb n 6144) (Refused (OutOfRange (place_of (n - 4096)))) Passed))
+judged n = or_else (ltb n 2048) (Err (NotFinite (place_of n)))
+    (or_else (ltb n 4096) (Err (OffGrid (place_of (n - 2048))))
+    (or_else (ltb n 6144) (Err (OutOfRange (place_of (n - 4096)))) (Ok tt)))
 
 -- every number of the list is a length
 pub record Lengths (xs : List Float) : Type 0 where
@@ -66,5 +62,5 @@ pub record SoundInput (input : Input) : Type 0 where
 -- ---- the answer of a verdict
 
 abbrev pub as_answer : Verdict → ℕ → ℕ → Answer
-as_answer Passed lines rounds = Done lines rounds
-as_answer (Refused why) lines rounds = answer.Refused why
+as_answer (Ok tt) lines rounds = done lines rounds
+as_answer (Err why) lines rounds = Err why

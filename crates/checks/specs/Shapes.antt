@@ -1,7 +1,6 @@
 -- Checks 1 and 2 of a call, from the lengths of its lists (document 01, "Domain and refusal numbers"). Assumes nothing.
 use Rattle.std.specs.Prelude.{Bool, true, ◌&&◌, List, [], ◌∷◌, ℕ, ◌+◌, ◌*◌, max, eqb, leb}
-use Rattle.checks.specs.Domain.{shape}
-use Rattle.checks.specs.declared.Verdict.{Verdict}
+use Rattle.checks.specs.Domain.{shape, Verdict}
 
 abbrev pub longest : List ℕ → ℕ
 longest [] = 0

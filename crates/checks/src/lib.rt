@@ -6,7 +6,7 @@
 
 ghost use Rattle.std.specs.Prelude.{◌≡◌, min};
 ghost use Rattle.checks.specs.Domain.{shape, summed};
-ghost use Rattle.checks.specs.Marks.{as_answer, judged, place_of};
+ghost use Rattle.checks.specs.Marks.{judged, place_of};
 
 pub mod shapes; // shapes.rt: checks 1 and 2 of the lengths of lists
 
@@ -25,14 +25,15 @@ pub enum Kind {
     Worked,
 }
 
-#[derive(Clone, Copy)]
+#[derive(Clone, Copy, Debug, PartialEq, Eq)]
 pub enum Place {
     Container,
     // An item, or in a list of lines a line.
     At(u32),
 }
 
-#[derive(Clone, Copy)]
+// Why a call refuses.
+#[derive(Clone, Copy, Debug, PartialEq, Eq)]
 pub enum Refusal {
     TooManyItems,
     TooLittleRoom,
@@ -42,21 +43,15 @@ pub enum Refusal {
     SumTooLarge,
 }
 
-#[derive(Clone, Copy)]
-pub enum Verdict {
-    Passed,
-    Refused(Refusal),
-}
-
-// What a call answers. Where it refuses there are no lines and no rounds to tell of.
-#[derive(Clone, Copy)]
-pub enum Answer {
-    Done { lines: u32, rounds: u32 },
-    Refused(Refusal),
+// What a call answers where it refuses nothing.
+#[derive(Clone, Copy, Debug, PartialEq, Eq)]
+pub struct Done {
+    pub lines: u32,
+    pub rounds: u32,
 }
 
 // The first check that a number fails, and its place, in one number, so that the least of all marks is the refusal that
-// comes first.
+// comes first: `judged-checked` and `accepted` speak of it as a number.
 #[derive(Clone, Copy)]
 pub struct Mark(pub u32);
 
@@ -71,68 +66,57 @@ pub fn no_mark() -> Mark
 pub fn least(a: Mark, b: Mark) -> Mark
     ensures { result.0 ≡ min a.0 b.0 }
 {
-    if a.0 < b.0 { a } else { b }
+    Mark(a.0.min(b.0))
 }
 
 // Checks 3 to 5, from the least mark of all numbers.
-pub fn judge(m: Mark) -> Verdict
+#[tactic(auto, unfolding(crate::specs::Marks::judged))]
+pub fn judge(m: Mark) -> Result<(), Refusal>
     ensures { result ≡ judged m.0 }
 {
     let n = m.0;
     if n < 2048 {
-        return Verdict::Refused(Refusal::NotFinite(place_of(n)));
+        return Err(Refusal::NotFinite(place_of(n)));
     }
     if n < 4096 {
-        return Verdict::Refused(Refusal::OffGrid(place_of(n - 2048)));
+        return Err(Refusal::OffGrid(place_of(n - 2048)));
     }
     if n < 6144 {
-        return Verdict::Refused(Refusal::OutOfRange(place_of(n - 4096)));
+        return Err(Refusal::OutOfRange(place_of(n - 4096)));
     }
-    Verdict::Passed
+    Ok(())
 }
 
 fn place_of(n: u32) -> Place
     ensures { result ≡ place_of n }
 {
-    if n == 0 {
-        Place::Container
-    } else {
-        Place::At(n - 1)
+    match n {
+        0 => Place::Container,
+        _ => Place::At(n - 1),
     }
 }
 
 // Checks 1 and 2: `longest` is the length of the longest input list, and `room` says that the lists are of one length
 // and that there is room.
-pub fn check_shape(longest: usize, room: bool) -> Verdict
+pub fn check_shape(longest: usize, room: bool) -> Result<(), Refusal>
     ensures { result ≡ shape longest room }
 {
     if 1024 < longest {
-        return Verdict::Refused(Refusal::TooManyItems);
+        return Err(Refusal::TooManyItems);
     }
-    if room {
-        Verdict::Passed
-    } else {
-        Verdict::Refused(Refusal::TooLittleRoom)
+    if !room {
+        return Err(Refusal::TooLittleRoom);
     }
+    Ok(())
 }
 
 // Check 6.
-pub fn check_sum(total: u64) -> Verdict
+pub fn check_sum(total: u64) -> Result<(), Refusal>
     ensures { result ≡ summed total }
 {
     if total <= 16777216 {
-        Verdict::Passed
+        Ok(())
     } else {
-        Verdict::Refused(Refusal::SumTooLarge)
-    }
-}
-
-// A refusal as the answer of a call, which has passed where there is none.
-pub fn answer_of(v: Verdict, lines: u32, rounds: u32) -> Answer
-    ensures { result ≡ as_answer v lines rounds }
-{
-    match v {
-        Verdict::Passed => Answer::Done { lines, rounds },
-        Verdict::Refused(why) => Answer::Refused(why),
+        Err(Refusal::SumTooLarge)
     }
 }

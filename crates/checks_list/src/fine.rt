@@ -14,10 +14,8 @@ pub fn are_fine(kind: Kind, xs: &[f32]) -> bool
 {
     let b = checks_number::bounds_of(kind);
     let mut ok = true;
-    let mut i = 0;
-    while i < xs.len() {
-        ok = ok & is_fine(b, xs[i]);
-        i += 1;
+    for &x in xs {
+        ok = ok & is_fine(b, x);
     }
     ok
 }
@@ -30,10 +28,8 @@ pub fn are_fine_where<'a>(kind: Kind, xs: &'a [f32], codes: &'a [u32], taken: u3
 {
     let b = checks_number::bounds_of(kind);
     let mut ok = true;
-    let mut i = 0;
-    while i < xs.len() {
+    for i in 0..xs.len() {
         ok = ok & ((codes[i] != taken) | is_fine(b, xs[i]));
-        i += 1;
     }
     ok
 }
@@ -43,10 +39,8 @@ pub fn are_named(most: u32, codes: &[u32]) -> bool
     ensures { result ≡ every (λ i. leb (get_or codes.now i 0) most) (length codes.now) }
 {
     let mut ok = true;
-    let mut i = 0;
-    while i < codes.len() {
-        ok = ok & (codes[i] <= most);
-        i += 1;
+    for &code in codes {
+        ok = ok & (code <= most);
     }
     ok
 }

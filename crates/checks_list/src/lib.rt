@@ -29,10 +29,8 @@ pub fn mark_floats(kind: Kind, xs: &[f32]) -> Mark
         return no_mark();
     }
     let mut m = no_mark();
-    let mut i = 0;
-    while i < xs.len() {
-        m = least(m, checks_number::mark_float(kind, xs[i], (i + 1) as u32));
-        i += 1;
+    for (i, &x) in xs.iter().enumerate() {
+        m = least(m, checks_number::mark_float(kind, x, (i + 1) as u32));
     }
     m
 }
@@ -47,14 +45,12 @@ pub fn mark_floats_where<'a>(kind: Kind, xs: &'a [f32], codes: &'a [u32], taken:
         return no_mark();
     }
     let mut m = no_mark();
-    let mut i = 0;
-    while i < xs.len() {
+    for i in 0..xs.len() {
         let c = codes[i];
         m = least(
             m,
             checks_number::mark_given(kind, xs[i], c == taken, (i + 1) as u32),
         );
-        i += 1;
     }
     m
 }
@@ -69,10 +65,8 @@ pub fn mark_codes(most: u32, codes: &[u32]) -> Mark
         return no_mark();
     }
     let mut m = no_mark();
-    let mut i = 0;
-    while i < codes.len() {
-        m = least(m, checks_number::mark_code(most, codes[i], (i + 1) as u32));
-        i += 1;
+    for (i, &code) in codes.iter().enumerate() {
+        m = least(m, checks_number::mark_code(most, code, (i + 1) as u32));
     }
     m
 }
@@ -85,10 +79,8 @@ pub fn sum_floats(xs: &[f32], gap: f32) -> u64
 {
     let g = grid::to_sixtyfourths(gap);
     let mut total: u64 = 0;
-    let mut i = 0;
-    while i < xs.len() {
-        total = checks_number::add_outer(total, grid::to_sixtyfourths(xs[i]), g);
-        i += 1;
+    for &x in xs {
+        total = checks_number::add_outer(total, grid::to_sixtyfourths(x), g);
     }
     total
 }

@@ -104,8 +104,7 @@ fn magnitude(v: grid::Sixtyfourths) -> u64
     requires { nat_abs v.0 ≤ 67108864 }
     ensures { result ≡ nat_abs v.0 }
 {
-    let n = v.0;
-    if n < 0 { (0 - n) as u64 } else { n as u64 }
+    u64::from(v.0.unsigned_abs())
 }
 
 // One item more in the sum of check 6: the magnitude of its outer main size, and a gap. No entry point.

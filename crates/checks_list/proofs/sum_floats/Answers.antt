@@ -22,7 +22,6 @@ next xs gap total i v g r lg ls h inv p q e =
     let s = e ∙ ap₂ (λ (m n : ℕ). total + (m + n)) (ap nat_abs p) (ap nat_abs q) in
     let t = inv.bound in
     record {
-      inside = omega arith;
       is = s ∙ ap (λ (m : ℕ). m + outer xs gap i) inv.is ∙ sym (sum_more (outer xs gap) i);
       bound = omega arith;
     }
@@ -30,28 +29,28 @@ next xs gap total i v g r lg ls h inv p q e =
 pub to_sixtyfourths-g-requires : goal.to_sixtyfourths-g-requires
 to_sixtyfourths-g-requires c = c.requires.1
 
-pub loop-i-init : goal.loop-i-init
-loop-i-init c = let a = c.args in record { inside = omega arith; is = sym (sum-none (outer a.xs.now a.gap)); bound = omega arith }
+pub loop-x-init : goal.loop-x-init
+loop-x-init c = let a = c.args in record { is = sym (sum-none (outer a.xs.now a.gap)); bound = omega arith }
 
 pub to_sixtyfourths-requires : goal.to_sixtyfourths-requires
-to_sixtyfourths-requires c = c.requires.2.each c.loop-i.i (omega arith)
+to_sixtyfourths-requires c = c.requires.2.each c.loop-x.x-index (omega arith)
 
 pub add_outer-total-requires : goal.add_outer-total-requires
 add_outer-total-requires c =
-    let h : c.loop-i.i < length c.args.xs.now = c.loop-i-test.true in
+    let h : c.loop-x.x-index < length c.args.xs.now = c.loop-x-test.true in
     let a = ap nat_abs c.to_sixtyfourths.ensures in
     let b = ap nat_abs c.to_sixtyfourths-g.ensures in
-    let x = (c.requires.2.each c.loop-i.i h).small in
+    let x = (c.requires.2.each c.loop-x.x-index h).small in
     (omega arith, omega arith, omega arith)
 
-pub loop-i-preserved : goal.loop-i-preserved
-loop-i-preserved c =
-    next c.args.xs.now c.args.gap c.loop-i.total c.loop-i.i c.to_sixtyfourths.result.0 c.to_sixtyfourths-g.result.0 c.add_outer-total.result
-    c.requires.1 c.requires.2 c.loop-i-test.true c.loop-i.invariant c.to_sixtyfourths.ensures c.to_sixtyfourths-g.ensures c.add_outer-total.ensures
+pub loop-x-preserved : goal.loop-x-preserved
+loop-x-preserved c =
+    next c.args.xs.now c.args.gap c.loop-x.total c.loop-x.x-index c.to_sixtyfourths.result.0 c.to_sixtyfourths-g.result.0 c.add_outer-total.result
+    c.requires.1 c.requires.2 c.loop-x-test.true c.loop-x.invariant c.to_sixtyfourths.ensures c.to_sixtyfourths-g.ensures c.add_outer-total.ensures
 
 pub returns : goal.returns
 returns c =
     let a = c.args in
-    let inv = c.loop-i.invariant in
-    let n : c.loop-i.i ≡ length a.xs.now = omega arith in
+    let inv = c.loop-x.invariant in
+    let n : c.loop-x.x-index ≡ length a.xs.now = omega arith in
     inv.is ∙ ap (sum_up_to (outer a.xs.now a.gap)) n

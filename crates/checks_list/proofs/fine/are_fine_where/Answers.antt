@@ -17,18 +17,14 @@ abbrev given : Start → Kind → ℕ → Bool
 given c kind = fineAt kind c.args.xs.now c.args.codes.now c.args.taken
 
 pub loop-i-init : goal.loop-i-init
-loop-i-init c = (omega arith, λ kind e. sym (every-none (given (goal.at.loop-i-init c).Start kind)))
-
-pub overflow_add-i : goal.overflow_add-i
-overflow_add-i c = omega (arith, c.loop-i-test.true, c.well_formed.1.0.1)
+loop-i-init c = sym (every-none (given (goal.at.loop-i-init c).Start c.args.kind))
 
 pub loop-i-preserved : goal.loop-i-preserved
-loop-i-preserved c = (
-  omega (arith, c.loop-i-test.true),
-  λ kind e. ap₂ (λ (p q : Bool). p && (not (eqb (get_or c.args.codes.now c.loop-i.i 0) c.args.taken) || q)) (c.loop-i.invariant.1 kind e) (c.is_fine.ensures kind e) ∙ sym (every_more (given (goal.at.loop-i-preserved c).Start kind) c.loop-i.i),
-)
+loop-i-preserved c =
+    ap₂ (λ (p q : Bool). p && (not (eqb (get_or c.args.codes.now c.loop-i.i 0) c.args.taken) || q)) c.loop-i.invariant (c.is_fine.ensures c.args.kind c.bounds_of-b.ensures)
+    ∙ sym (every_more (given (goal.at.loop-i-preserved c).Start c.args.kind) c.loop-i.i)
 
 pub returns : goal.returns
 returns c =
-    let n : c.loop-i.i ≡ length c.args.xs.now = omega (arith, c.loop-i-test.false, c.loop-i.invariant.0) in
-    c.loop-i.invariant.1 c.args.kind c.bounds_of-b.ensures ∙ ap (every (given (goal.at.returns c).Start c.args.kind)) n
+    let n : c.loop-i.i ≡ length c.args.xs.now = omega (arith, c.loop-i-test.false, c.loop-i.auto.i-end) in
+    c.loop-i.invariant ∙ ap (every (given (goal.at.returns c).Start c.args.kind)) n

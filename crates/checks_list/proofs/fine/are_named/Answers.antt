@@ -8,16 +8,15 @@ use Rattle.checks_list.proofs.Every.{every-none, every_more}
 use Rattle.checks_list.proofs.fine.are_named.Goals as goal
 use Rattle.checks_list.proofs.fine.are_named.Invariants.{named_at}
 
-pub loop-i-init : goal.loop-i-init
-loop-i-init c = let a = c.args in (omega arith, sym (every-none (named_at a.most a.codes.now)))
+pub loop-code-init : goal.loop-code-init
+loop-code-init c = sym (every-none (named_at c.args.most c.args.codes.now))
 
-pub loop-i-preserved : goal.loop-i-preserved
-loop-i-preserved c =
-    let a = c.args in
-    (omega arith, ap (λ (p : Bool). p && named_at a.most a.codes.now c.loop-i.i) c.loop-i.invariant.1 ∙ sym (every_more (named_at a.most a.codes.now) c.loop-i.i))
+pub loop-code-preserved : goal.loop-code-preserved
+loop-code-preserved c =
+    let q = named_at c.args.most c.args.codes.now in
+    ap (λ (p : Bool). p && q c.loop-code.code-index) c.loop-code.invariant ∙ sym (every_more q c.loop-code.code-index)
 
 pub returns : goal.returns
 returns c =
-    let a = c.args in
-    let n : c.loop-i.i ≡ length a.codes.now = omega arith in
-    c.loop-i.invariant.1 ∙ ap (every (named_at a.most a.codes.now)) n
+    let n : c.loop-code.code-index ≡ length c.args.codes.now = omega arith in
+    c.loop-code.invariant ∙ ap (every (named_at c.args.most c.args.codes.now)) n
