@@ -1,5 +1,4 @@
-// The lists of a call: a number of each item in each of them. No entry points: `judge` of crate `flex_checks` sees that
-// they are of one length.
+// The lists of a call: a number of each item in each of them. Crate `flex_checks` sees that they are of one length.
 ghost use Rattle.std.specs.Prelude.{◌≡◌, length};
 
 // A list for each number of an item. `has_maximum` is 0 where the item has no maximum, and 1 where it has one; the codes

@@ -10,7 +10,7 @@ pub mod sizes;
 pub use items::ItemLists;
 
 // An item as it is read: no number is -0.0, an auto margin is 0, and an absent maximum is infinite.
-#[derive(Clone, Copy)]
+#[derive(Clone, Copy, Default)]
 pub struct Item {
     pub base: f32,
     pub minimum: f32,

@@ -6,9 +6,9 @@ use Prim.Native.Nat.{ℕ, ◌+◌, ◌≤◌, ◌<◌, zero-le}
 use native.Mathlib.Nat.{le_refl, le_of_lt, lt_of_lt_of_le, ne_of_lt, ne_of_gt}
 use native.Mathlib.Numerals.{add-one, lt-add-one}
 use native.Mathlib.Omega.{arith}
-use lib.ListN.{length, get_or, set, length-append, length-set}
-use lib.Seq.{get_or-set_same, get_or-set_other}
-use lib.IntN.{ℤ, nat_abs}
+use lib.ListN.{length, get_or, set, take, length-append, length-set}
+use lib.Seq.{get_or-set_same, get_or-set_other, take-suc}
+use lib.IntN.{nat_abs}
 use lib.Ieee.{Float, nan}
 use Rattle.grid.specs.Grid.{sixty_fourths}
 use borrow.Author.Count.{below_none, below_more}
@@ -16,6 +16,7 @@ use Rattle.flex.specs.declared.Item.{Item}
 use Rattle.lists.specs.Cells.{each}
 use Rattle.lists.proofs.Each.{each_ext}
 use Rattle.grid.specs.Floats.{◌⊕◌, nought}
+use Rattle.flex_table.specs.Table.{no_item, item_in}
 use Rattle.flex.specs.Flex.{Cell, sum_from, total, left, unfrozen, outer_units, outer_sum}
 
 -- ---- sums
@@ -90,12 +91,8 @@ unfolding outer_sum
 outer_snoc gap [] it = omega arith
 outer_snoc gap (x ∷ l) it = omega (arith, outer_snoc gap l it)
 
-pub outer_turn : (gap : Float) (g : ℕ → Item) (n t : ℕ) (u v : ℤ) (r : ℕ) → t ≡ outer_sum gap (each n g) → u ≡ outer_units (g n) → v ≡ sixty_fourths gap → r ≡ t + (nat_abs u + nat_abs v) → r ≡ outer_sum gap (each (n + 1) g)
-unfolding each
-outer_turn gap g n t u v r p q h e =
-    e ∙ ap₂ (λ (a b : ℕ). a + b) p (ap₂ (λ (a b : ℤ). nat_abs a + nat_abs b) q h)
-    ∙ sym (outer_snoc gap (each n g) (g n))
-    ∙ sym (ap (λ (k : ℕ). outer_sum gap (each k g)) (add-one n))
+pub outer_next : (gap : Float) (l : List Item) (i : ℕ) → i < length l → outer_sum gap (take (i + 1) l) ≡ outer_sum gap (take i l) + (nat_abs (outer_units (item_in l i)) + nat_abs (sixty_fourths gap))
+outer_next gap l i h = ap (λ k. outer_sum gap (take k l)) (add-one i) ∙ ap (outer_sum gap) (take-suc l i no_item h) ∙ outer_snoc gap (take i l) (item_in l i)
 
 -- ---- a turn of a loop that sums
 

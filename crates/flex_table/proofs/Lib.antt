@@ -1,2 +1,2 @@
 pub mod Each
-pub mod Columns
+pub mod Items

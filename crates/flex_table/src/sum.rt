@@ -1,11 +1,9 @@
 // Check 6: the sum over items of the magnitude of the hypothetical outer size, and a gap, in sixty-fourths.
-ghost use Rattle.std.specs.Prelude.{◌≡◌};
+ghost use Rattle.std.specs.Prelude.{◌≡◌, ◌≤◌, length};
 ghost use Rattle.grid.specs.Values.{Length};
 ghost use Rattle.flex.specs.Flex.{outer_units, outer_sum};
-ghost use Rattle.flex.specs.Accepted.{Measured};
-ghost use Rattle.flex_table.specs.Table.{Wide, items_in, Tabled};
+ghost use Rattle.flex.specs.Accepted.{Measured, Every};
 
-use crate::pick;
 use flex::Item;
 use flex::sizes::hypothetical_size;
 
@@ -21,17 +19,14 @@ fn outer_units(it: Item) -> grid::Sixtyfourths
 }
 
 // The sum of the items of a table. No entry point: it asks for measured items.
-pub fn outer_sum(table: &[f32], n: usize, gap: f32) -> u64
-    requires { Wide table.now n × Length gap × Tabled table.now n }
-    ensures { result ≡ outer_sum gap (items_in table.now 0 n) }
+pub fn outer_sum(items: &[Item], gap: f32) -> u64
+    requires { (length items.now ≤ 1024) × Length gap × Every Measured items.now }
+    ensures { result ≡ outer_sum gap items.now }
 {
     let g = grid::to_sixtyfourths(gap);
-    let mut total: u64 = 0;
-    let mut i = 0;
-    while i < n {
-        let it = pick(table, i);
-        total = checks_number::add_outer(total, outer_units(it), g);
-        i += 1;
+    let mut total = 0;
+    for it in items {
+        total = checks_number::add_outer(total, outer_units(*it), g);
     }
     total
 }
