@@ -5,7 +5,7 @@
 #![tactic(auto)]
 
 ghost use Rattle.std.specs.Prelude.{◌≡◌, min};
-ghost use Rattle.checks.specs.Domain.{shape, summed};
+ghost use Rattle.checks.specs.Domain.{shape, summed, refusal_of, where_of};
 ghost use Rattle.checks.specs.Marks.{judged, place_of};
 
 pub mod shapes; // shapes.rt: checks 1 and 2 of the lengths of lists
@@ -41,6 +41,34 @@ pub enum Refusal {
     OffGrid(Place),
     OutOfRange(Place),
     SumTooLarge,
+}
+
+// What a refusal is told as.
+impl Refusal {
+    pub fn number(self) -> u32
+        ensures { result ≡ (refusal_of self).number }
+    {
+        match self {
+            Refusal::TooManyItems => 1,
+            Refusal::TooLittleRoom => 2,
+            Refusal::NotFinite(_) => 3,
+            Refusal::OffGrid(_) => 4,
+            Refusal::OutOfRange(_) => 5,
+            Refusal::SumTooLarge => 6,
+        }
+    }
+
+    pub fn place(self) -> Place
+        ensures { where_of result ≡ (refusal_of self).place }
+    {
+        match self {
+            Refusal::NotFinite(place) | Refusal::OffGrid(place) | Refusal::OutOfRange(place) =>
+                place,
+            Refusal::TooManyItems | Refusal::TooLittleRoom | Refusal::SumTooLarge => {
+                Place::Container
+            }
+        }
+    }
 }
 
 // What a call answers where it refuses nothing.
