@@ -1,7 +1,6 @@
 -- What crosses to C: an answer's number, place, lines and rounds, by the paper's table of refusals. Assumes nothing.
 use Rattle.std.specs.Prelude.{ℕ}
-use Rattle.checks.specs.Domain.{Where, nowhere, at_container, at_item, Paper, paper}
-use Rattle.checks.specs.declared.Answer.{Answer}
+use Rattle.checks.specs.Domain.{Where, nowhere, at_container, at_item, Paper, Answer, paper}
 use Rattle.export_answer.specs.declared.CAnswer.{CAnswer}
 
 -- where: 0 nowhere, 1 the container, 2 the item or line `place`

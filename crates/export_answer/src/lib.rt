@@ -3,10 +3,10 @@
 #![tactic(auto)]
 
 ghost use Rattle.std.specs.Prelude.{◌≡◌};
-ghost use Rattle.checks.specs.Domain.{refused_as, where_of, refusal_of};
+ghost use Rattle.checks.specs.Domain.{refusal_of};
 ghost use Rattle.export_answer.specs.Crossing.{crossed, c_answer};
 
-use checks::{Answer, Place, Refusal};
+use checks::{Done, Place, Refusal};
 
 // An answer's number, its place, its lines and its rounds. `at` says where: 0 nowhere, 1 the container, 2 the item or
 // line `place`.
@@ -20,51 +20,37 @@ pub struct CAnswer {
     pub rounds: u32,
 }
 
-fn refused(number: u32, place: Place) -> CAnswer
-    ensures { result ≡ crossed (refused_as number (where_of place)) }
-{
-    match place {
-        Place::Container => CAnswer {
-            number,
-            at: 1,
-            place: 0,
+impl From<Refusal> for CAnswer {
+    ghost from_gives = { λ why answer. answer ≡ crossed (refusal_of why) };
+
+    fn from(why: Refusal) -> CAnswer {
+        let (at, place) = match why.place() {
+            Place::Container => (1, 0),
+            Place::At(i) => (2, i),
+        };
+        CAnswer {
+            number: why.number(),
+            at,
+            place,
             lines: 0,
             rounds: 0,
-        },
-        Place::At(i) => CAnswer {
-            number,
-            at: 2,
-            place: i,
-            lines: 0,
-            rounds: 0,
-        },
+        }
     }
 }
 
-pub fn refusal_to_c(why: Refusal) -> CAnswer
-    ensures { result ≡ crossed (refusal_of why) }
-{
-    match why {
-        Refusal::TooManyItems => refused(1, Place::Container),
-        Refusal::TooLittleRoom => refused(2, Place::Container),
-        Refusal::NotFinite(p) => refused(3, p),
-        Refusal::OffGrid(p) => refused(4, p),
-        Refusal::OutOfRange(p) => refused(5, p),
-        Refusal::SumTooLarge => refused(6, Place::Container),
-    }
-}
+impl From<Result<Done, Refusal>> for CAnswer {
+    ghost from_gives = { λ told answer. answer ≡ c_answer told };
 
-pub fn to_c(a: Answer) -> CAnswer
-    ensures { result ≡ c_answer a }
-{
-    match a {
-        Answer::Done { lines, rounds } => CAnswer {
-            number: 0,
-            at: 0,
-            place: 0,
-            lines,
-            rounds,
-        },
-        Answer::Refused(why) => refusal_to_c(why),
+    fn from(told: Result<Done, Refusal>) -> CAnswer {
+        match told {
+            Ok(done) => CAnswer {
+                number: 0,
+                at: 0,
+                place: 0,
+                lines: done.lines,
+                rounds: done.rounds,
+            },
+            Err(why) => why.into(),
+        }
     }
 }
