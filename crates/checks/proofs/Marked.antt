@@ -13,6 +13,7 @@ use Rattle.checks.proofs.Checks.{judged-checked, least_append, least_one, least_
 use Rattle.checks.specs.Shapes.{longest, alike, roomy, shape_of}
 use Rattle.checks.proofs.Verdicts.{then_last}
 use Rattle.std.specs.declared.result.Result.TheVariants.{Ok}
+use Rattle.std.proofs.Math.Bool.{and_assoc}
 
 -- ---- marks
 
@@ -72,6 +73,11 @@ roomy_all n (k ∷ l) rest e = let p = and_true (leb n k) (roomy n l rest) e in 
 
 longest-first : (n : ℕ) (l : List ℕ) → n ≤ longest (n ∷ l)
 longest-first n l = omega arith
+
+-- the lent lists have room and the rest holds, where each is told by itself
+pub roomy_and : (n : ℕ) (l : List ℕ) (rest : Bool) → (roomy n l true && rest) ≡ roomy n l rest
+roomy_and n [] rest = refl
+roomy_and n (k ∷ l) rest = and_assoc (leb n k) (roomy n l true) rest ∙ ap (λ (p : Bool). leb n k && p) (roomy_and n l rest)
 
 -- what checks 1 and 2 say where they pass
 pub shaped : (n : ℕ) (lengths rooms : List ℕ) → shape_of (n ∷ lengths) rooms n ≡ Ok tt → (n ≤ 1024) × All n lengths × Roomy n rooms
