@@ -1,35 +1,40 @@
 -- A line's items with their frozen marks and targets. Only contracts of parts cite it. Assumes nothing.
-use Rattle.std.specs.Prelude.{◌≡◌, Bool, false, List, ℕ, ◌+◌, ◌≤◌, length, get_or, Float}
+use Rattle.std.specs.Prelude.{◌≡◌, Bool, false, List, ℕ, ◌≤◌, length, get_or, Float}
 use Rattle.std.specs.Float.{nan}
 use Rattle.lists.specs.Cells.{each}
+use Rattle.flex.specs.declared.Item.{Item}
 use Rattle.flex.specs.declared.Line.{Line}
 use Rattle.flex.specs.Flex.{Cell, after, Runs}
-use Rattle.flex_table.specs.Table.{item_in, Wide, Kept}
+use Rattle.flex_table.specs.Table.{item_in}
 
-abbrev pub cell_at : List Float → ℕ → List Bool → List Float → ℕ → Cell
-cell_at t from frozen targets i = record {
-  item = item_in t (from + i);
+abbrev pub cell_at : List Item → List Bool → List Float → ℕ → Cell
+cell_at items frozen targets i = record {
+  item = item_in items i;
   frozen = get_or frozen i false;
   target = get_or targets i nan;
 }
 
-abbrev pub cells_of : List Float → ℕ → ℕ → List Bool → List Float → List Cell
-cells_of t from n frozen targets = each n (cell_at t from frozen targets)
+abbrev pub cells_of : List Item → List Bool → List Float → List Cell
+cells_of items frozen targets = each (length items) (cell_at items frozen targets)
 
--- the line is in the table, and has room in the marks and the targets
-pub record LineRoom (t : List Float) (from n : ℕ) (frozen : List Bool) (targets : List Float) : Type 0 where
-  pub inside : Wide t (from + n)
-  pub marks : n ≤ length frozen
-  pub room : n ≤ length targets
+-- the line has at most 1,024 items, and room in the marks and the targets
+pub record LineRoom (items : List Item) (frozen : List Bool) (targets : List Float) : Type 0 where
+  pub few : length items ≤ 1024
+  pub marks : length items ≤ length frozen
+  pub room : length items ≤ length targets
+
+-- the targets past the first n are as they were
+abbrev pub Untouched : ℕ → List Float → List Float → Type 0
+Untouched n old new = (k : ℕ) → n ≤ k → get_or new k nan ≡ get_or old k nan
 
 -- the marks and targets after a call are the given cells, and the targets past them as before
-pub record Rewritten (t : List Float) (from n : ℕ) (cells : List Cell) (targets₀ : List Float) (frozen : List Bool)
+pub record Rewritten (items : List Item) (cells : List Cell) (targets₀ : List Float) (frozen : List Bool)
     (targets : List Float) : Type 0 where
-  pub cells_are : cells_of t from n frozen targets ≡ cells
-  pub kept : Kept n targets₀ targets
+  pub cells_are : cells_of items frozen targets ≡ cells
+  pub kept : Untouched (length items) targets₀ targets
 
 -- all rounds, from the marks and targets before a call
-pub record Ran (t : List Float) (from n : ℕ) (ln : Line) (rounds : ℕ) (frozen₀ : List Bool) (targets₀ : List Float)
+pub record Ran (items : List Item) (ln : Line) (rounds : ℕ) (frozen₀ : List Bool) (targets₀ : List Float)
     (frozen : List Bool) (targets : List Float) : Type 0 where
-  pub number : Runs ln (cells_of t from n frozen₀ targets₀) rounds
-  pub written : Rewritten t from n (after ln rounds (cells_of t from n frozen₀ targets₀)) targets₀ frozen targets
+  pub number : Runs ln (cells_of items frozen₀ targets₀) rounds
+  pub written : Rewritten items (after ln rounds (cells_of items frozen₀ targets₀)) targets₀ frozen targets

@@ -80,6 +80,9 @@ unfrozen_next c n k h =
     go true = ap (λ (l : List Cell). length l) (sym (append-nil (left (each n c))))
     go false = sym (length-append (left (each n c)) (c n ∷ []))
 
+pub total_take : (f : Item → Float) (l : List Item) (i : ℕ) → i < length l → total f (take (i + 1) l) ≡ total f (take i l) ⊕ f (item_in l i)
+total_take f l i h = ap (λ k. total f (take k l)) (add-one i) ∙ ap (total f) (take-suc l i no_item h) ∙ sum_snoc nought f (take i l) (item_in l i)
+
 -- ---- the sum of check 6
 
 pub outer-none : (gap : Float) (g : ℕ → Item) → outer_sum gap (each 0 g) ≡ 0

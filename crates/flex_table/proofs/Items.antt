@@ -1,6 +1,6 @@
 -- The items of a table: those that it holds of the lists of a call, and those of a part of it. Assumes nothing.
 use mathlib.Core.Path.{◌≡◌, refl, sym, ap, ap₂, ◌∙◌, subst}
-use mathlib.Core.List.{List, [], ◌∷◌, ◌++◌}
+use mathlib.Core.List.{List, [], ◌∷◌, ◌++◌, map}
 use Prim.Native.Nat.{ℕ, zero, suc, ◌+◌, ◌≤◌, ◌<◌}
 use native.Mathlib.Nat.{zero-add, le_refl}
 use native.Mathlib.Omega.{arith}
@@ -11,7 +11,7 @@ use Rattle.lists.specs.Cells.{each}
 use Rattle.flex.specs.Items.{Lists, count, item_at, items_of}
 use Rattle.flex.specs.Accepted.{Measured, Every}
 use Rattle.flex_table.specs.Table.{no_item, item_in, items_in, Tabled, Held}
-use Rattle.lists.proofs.Each.{each_ext}
+use Rattle.lists.proofs.Each.{each_ext, map_each}
 
 -- ---- the items of the lists of a call
 
@@ -48,6 +48,12 @@ part_items t from n h = take-each no_item n (drop from t) (λ i. item_in t (from
 
 pub first_items : (t : List Item) (n : ℕ) → n ≤ length t → take n t ≡ items_in t 0 n
 first_items t n h = take-each no_item n t (λ i. item_in t (0 + i)) h (λ k l. ap (item_in t) (sym (zero-add k)))
+
+pub each_items : (t : List Item) → each (length t) (item_in t) ≡ t
+each_items t = sym (take-each no_item (length t) t (item_in t) (le_refl (length t)) (λ k l. refl)) ∙ take-length t
+
+pub map_items : {A : Type 0} (f : Item → A) (t : List Item) → map f t ≡ each (length t) (λ i. f (item_in t i))
+map_items f t = ap (map f) (sym (each_items t)) ∙ map_each f (length t) (item_in t)
 
 pub all_items : (t : List Item) → items_in t 0 (length t) ≡ t
 all_items t = sym (first_items t (length t) (le_refl (length t))) ∙ take-length t

@@ -2,11 +2,11 @@
 -- definition's. Assumes nothing.
 use mathlib.Core.Path.{◌≡◌, sym, ap, ap₂, ◌∙◌, subst}
 use mathlib.Core.List.{List}
-use Prim.Native.Nat.{ℕ, ◌+◌, ◌≤◌}
-use native.Mathlib.Omega.{arith}
+use Prim.Native.Nat.{◌≤◌}
 use lib.ListN.{length}
 use lib.IntN.{ℤ, nat_abs, ◌-ℤ◌}
 use lib.Ieee.{Float}
+use Rattle.flex.specs.declared.Item.{Item}
 use mir.Syntax.{w32}
 use mir.Val.{to_z, of_z, SFits}
 use Rattle.grid.specs.Grid.{sixty_fourths}
@@ -14,49 +14,44 @@ use Rattle.grid.specs.Values.{Length}
 use Rattle.grid.specs.Floats.{gaps, ◌⊕◌}
 use Rattle.flex.specs.Accepted.{Accepted}
 use Rattle.flex.specs.Flex.{total, outer, hypothetical, free_before}
-use Rattle.flex_table.specs.Table.{item_in, items_in}
-use Rattle.lists.proofs.Each.{length-each}
 use Rattle.flex.proofs.Units.{used_length, used_units, subtracted}
 use Rattle.flex_rounds.proofs.line.free_before.Goals as goal
 
 abbrev bits : ℤ → ℤ
 bits z = to_z w32 (of_z w32 z)
 
-module _ (t : List Float) (from n : ℕ) (inner gap : Float) (few : from + n ≤ 1024)
-    (ok : Accepted inner gap (items_in t from n)) (x y : Float) (p : x ≡ gaps gap n)
-    (q : y ≡ total (λ it. outer it (hypothetical it)) (items_in t from n)) where
+module _ (items : List Item) (inner gap : Float) (few : length items ≤ 1024)
+    (ok : Accepted inner gap items) (x y : Float) (p : x ≡ gaps gap (length items))
+    (q : y ≡ total (λ it. outer it (hypothetical it)) items) where
   -- the used space that the code works out
-  used_is : Length (x ⊕ y) × (sixty_fourths (x ⊕ y) ≡ used_units gap (items_in t from n))
+  used_is : Length (x ⊕ y) × (sixty_fourths (x ⊕ y) ≡ used_units gap items)
   used_is =
-      let m = length-each n (λ i. item_in t (from + i)) in
-      let r = used_length inner gap (items_in t from n) (omega (arith, m, few)) ok in
-      let e : x ⊕ y ≡ gaps gap (length (items_in t from n))
-      ⊕ total (λ it. outer it (hypothetical it)) (items_in t from n) =
-      ap₂ (λ (a b : Float). a ⊕ b) (p ∙ ap (λ (k : ℕ). gaps gap k) (sym m)) q in
-      (subst (λ (z : Float). Length z) (sym e) r.0, ap sixty_fourths e ∙ r.1)
+      let r = used_length inner gap items few ok in
+      let e = ap₂ (λ a b. a ⊕ b) p q in
+      (subst (λ z. Length z) (sym e) r.0, ap sixty_fourths e ∙ r.1)
 
   both : (a b : ℤ) → a ≡ sixty_fourths inner → b ≡ sixty_fourths (x ⊕ y)
-      → SFits w32 (bits a -ℤ bits b) × (bits (bits a -ℤ bits b) ≡ free_before inner gap (items_in t from n))
+      → SFits w32 (bits a -ℤ bits b) × (bits (bits a -ℤ bits b) ≡ free_before inner gap items)
   both a b ea eb =
-      subtracted a b (sixty_fourths inner) (used_units gap (items_in t from n)) ea (eb ∙ used_is.1) ok.inner_is.small
+      subtracted a b (sixty_fourths inner) (used_units gap items) ea (eb ∙ used_is.1) ok.inner_is.small
       (subst (λ (z : ℤ). nat_abs z ≤ 16777216) used_is.1 used_is.0.small)
 
 pub to_sixtyfourths-b-requires : goal.to_sixtyfourths-b-requires
 to_sixtyfourths-b-requires c =
     let a = c.args in
-    (used_is a.table.now a.from a.n a.inner a.gap c.requires.0.0 c.requires.1 c.sum_axis_gaps.result
+    (used_is a.items.now a.inner a.gap c.requires.0 c.requires.1 c.sum_axis_gaps.result
     c.hypothetical_sum.result c.sum_axis_gaps.ensures c.hypothetical_sum.ensures).0
 
 pub overflow_sub-result : goal.overflow_sub-result
 overflow_sub-result c =
     let a = c.args in
-    (both a.table.now a.from a.n a.inner a.gap c.requires.0.0 c.requires.1 c.sum_axis_gaps.result
+    (both a.items.now a.inner a.gap c.requires.0 c.requires.1 c.sum_axis_gaps.result
     c.hypothetical_sum.result c.sum_axis_gaps.ensures c.hypothetical_sum.ensures c.to_sixtyfourths-a.result.0
     c.to_sixtyfourths-b.result.0 c.to_sixtyfourths-a.ensures c.to_sixtyfourths-b.ensures).0
 
 pub returns : goal.returns
 returns c =
     let a = c.args in
-    (both a.table.now a.from a.n a.inner a.gap c.requires.0.0 c.requires.1 c.sum_axis_gaps.result
+    (both a.items.now a.inner a.gap c.requires.0 c.requires.1 c.sum_axis_gaps.result
     c.hypothetical_sum.result c.sum_axis_gaps.ensures c.hypothetical_sum.ensures c.to_sixtyfourths-a.result.0
     c.to_sixtyfourths-b.result.0 c.to_sixtyfourths-a.ensures c.to_sixtyfourths-b.ensures).1

@@ -1,13 +1,7 @@
--- The sum of the hypothetical outer sizes: the sum so far is that of the first i items. Assumes nothing.
-use Rattle.std.proofs.Common.{◌≡◌, ◌+◌, ◌-◌, ◌≤◌}
-use Rattle.lists.specs.Cells.{each}
+-- The sum of the hypothetical outer sizes: the sum so far is that of the items so far. Assumes nothing.
+use Rattle.std.proofs.Common.{◌≡◌, take}
 use Rattle.flex.specs.Flex.{total, outer, hypothetical}
-use Rattle.flex_table.specs.Table.{item_in}
 use Rattle.flex_rounds.proofs.line.hypothetical_sum.Given as goal
 
-abbrev pub invariant-loop-i : goal.invariant-loop-i
-invariant-loop-i l =
-    (l.i ≤ l.n) × (l.s ≡ total (λ it. outer it (hypothetical it)) (each l.i (λ k. item_in l.table (l.from + k))))
-
-abbrev pub decreases-loop-i : goal.decreases-loop-i
-decreases-loop-i l = l.n - l.i
+abbrev pub invariant-loop-it : goal.invariant-loop-it
+invariant-loop-it l = l.s ≡ total (λ it. outer it (hypothetical it)) (take l.it-index l.items)

@@ -8,8 +8,8 @@ use Rattle.flex_rounds.proofs.line.run_rounds.Given as goal
 
 abbrev pub invariant-loop-s : goal.invariant-loop-s
 invariant-loop-s l =
-    Running l.table l.from l.n l.ln l.initial.frozen l.initial.targets l.frozen l.targets l.rounds
-    × Summed l.ln.growing (cells_of l.table l.from l.n l.frozen l.targets) l.s
+    Running l.items l.ln l.initial.frozen l.initial.targets l.frozen l.targets l.rounds
+    × Summed l.ln.growing (cells_of l.items l.frozen l.targets) l.s
 
 abbrev pub decreases-loop-s : goal.decreases-loop-s
-decreases-loop-s l = unfrozen (cells_of l.table l.from l.n l.frozen l.targets)
+decreases-loop-s l = unfrozen (cells_of l.items l.frozen l.targets)

@@ -1,9 +1,9 @@
 -- The flexed sizes: the unfrozen cells before i are at theirs, those from i on as they were, and the sum so far is of
 -- the violations before i. Assumes nothing.
 use mathlib.Core.Path.{◌≡◌, sym, ap, ap₂, ◌∙◌}
-use mathlib.Core.Bool.{Bool, true, false, cond}
-use Prim.Native.Nat.{◌+◌}
+use mathlib.Core.Bool.{true, false, cond}
 use native.Mathlib.Nat.{le_trans}
+use lib.ListN.{length}
 use lib.Ieee.{Float}
 use Rattle.grid.specs.Floats.{◌⊖◌}
 use Rattle.flex.specs.declared.Item.{Item}
@@ -18,63 +18,67 @@ use Rattle.flex_table.proofs.Each.{turned_all}
 use Rattle.flex_rounds.proofs.rounds.flex_sizes.Goals as goal
 
 sized-pass : (sh : Share) (d : Cell) → d.frozen ≡ true → d ≡ sized sh d
-sized-pass sh d e = ap (λ (b : Bool). put d.item d.frozen (cond b d.target (flexed sh d.item))) (sym e)
+sized-pass sh d e = ap (λ b. put d.item d.frozen (cond b d.target (flexed sh d.item))) (sym e)
 
 sized-next : (sh : Share) (d : Cell) (x : Float) → d.frozen ≡ false → x ≡ flexed sh d.item
     → put d.item d.frozen x ≡ sized sh d
 sized-next sh d x e p =
-    ap (λ (y : Float). put d.item d.frozen y) p
-    ∙ ap (λ (b : Bool). put d.item d.frozen (cond b d.target (flexed sh d.item))) (sym e)
+    ap (put d.item d.frozen) p
+    ∙ ap (λ b. put d.item d.frozen (cond b d.target (flexed sh d.item))) (sym e)
 
 violation-is : (sh : Share) (it : Item) (x y : Float) → y ≡ flexed sh it → x ≡ clamp it y → x ⊖ y ≡ violation sh it
 unfolding violation
-violation-is sh it x y p q = ap₂ (λ (a b : Float). a ⊖ b) (q ∙ ap (clamp it) p) p
+violation-is sh it x y p q = ap₂ (λ a b. a ⊖ b) (q ∙ ap (clamp it) p) p
 
 pub loop-i-init : goal.loop-i-init
 loop-i-init c =
     let a = c.args in
-    let g = cell_at a.table.now a.from a.frozen.now a.targets.now in (
-      turned_none a.n (λ k. sized a.sh (g k)) (λ k. item_in a.table.now (a.from + k)) a.frozen.now a.targets.now,
-      sym (left-none (λ d. violation a.sh d.item) g),
-    )
+    let g = cell_at a.items.now a.frozen.now a.targets.now in
+    record {
+      turned = turned_none (length a.items.now) (λ k. sized a.sh (g k)) (item_in a.items.now) a.frozen.now a.targets.now;
+      sum_is = sym (left-none (λ d. violation a.sh d.item) g);
+    }
 
 pub loop-i-preserved-then-frozen-i : goal.loop-i-preserved-then-frozen-i
 loop-i-preserved-then-frozen-i c =
     let a = c.args in
     let l = c.loop-i in
-    let g = cell_at a.table.now a.from a.frozen.now a.targets.now in (
-      turned_pass a.n (λ k. sized a.sh (g k)) (λ k. item_in a.table.now (a.from + k)) a.frozen.now a.targets.now
-          a.frozen.now l.targets l.i l.invariant.0 c.loop-i-test.true (sized-pass a.sh (g l.i) c.if-frozen-i.true),
-      left_pass (λ d. violation a.sh d.item) g l.i l.sum c.if-frozen-i.true l.invariant.1,
-    )
+    let g = cell_at a.items.now a.frozen.now a.targets.now in
+    record {
+      turned =
+          turned_pass (length a.items.now) (λ k. sized a.sh (g k)) (item_in a.items.now) a.frozen.now a.targets.now
+          a.frozen.now l.targets l.i l.invariant.turned c.loop-i-test.true
+          (sized-pass a.sh (g l.i) c.if-frozen-i.true);
+      sum_is = left_pass (λ d. violation a.sh d.item) g l.i l.sum c.if-frozen-i.true l.invariant.sum_is;
+    }
 
 pub loop-i-preserved : goal.loop-i-preserved
 loop-i-preserved c =
     let a = c.args in
     let l = c.loop-i in
-    let g = cell_at a.table.now a.from a.frozen.now a.targets.now in
+    let g = cell_at a.items.now a.frozen.now a.targets.now in
     let f = c.flexed_size-size in
-    let it = c.pick-it.ensures in
-    let size = f.ensures ∙ ap (λ (y : Item). flexed a.sh y) it in
-    let free = c.if-frozen-i.false in (
-      turned_size a.n (λ k. sized a.sh (g k)) (λ k. item_in a.table.now (a.from + k)) a.frozen.now a.targets.now
-          a.frozen.now l.targets l.i l.invariant.0 c.loop-i-test.true c.requires.room f.result
-          (sized-next a.sh (g l.i) f.result free size),
-      left_turn (λ d. violation a.sh d.item) g l.i l.sum (c.clamped.result ⊖ f.result) free l.invariant.1
-          (violation-is a.sh (item_in a.table.now (a.from + l.i)) c.clamped.result f.result size
-          (c.clamped.ensures ∙ ap (λ (y : Item). clamp y f.result) it)),
-    )
+    let free = c.if-frozen-i.false in
+    record {
+      turned =
+          turned_size (length a.items.now) (λ k. sized a.sh (g k)) (item_in a.items.now) a.frozen.now a.targets.now
+          a.frozen.now l.targets l.i l.invariant.turned c.loop-i-test.true c.requires.room f.result
+          (sized-next a.sh (g l.i) f.result free f.ensures);
+      sum_is =
+          left_turn (λ d. violation a.sh d.item) g l.i l.sum (c.clamped.result ⊖ f.result) free l.invariant.sum_is
+          (violation-is a.sh (item_in a.items.now l.i) c.clamped.result f.result f.ensures c.clamped.ensures);
+    }
 
 pub returns-clause-rewritten : goal.returns-clause-rewritten
 returns-clause-rewritten c =
     let a = c.args in
     let l = c.loop-i in
-    let g = cell_at a.table.now a.from a.frozen.now a.targets.now in
-    let t = l.invariant.0 in
+    let g = cell_at a.items.now a.frozen.now a.targets.now in
+    let t = l.invariant.turned in
     record {
       cells_are =
-          turned_all a.n (λ k. sized a.sh (g k)) (λ k. item_in a.table.now (a.from + k)) a.frozen.now a.targets.now
+          turned_all (length a.items.now) (λ k. sized a.sh (g k)) (item_in a.items.now) a.frozen.now a.targets.now
           a.frozen.now l.targets l.i t c.loop-i-test.false
-          ∙ sym (map_each (sized a.sh) a.n g);
+          ∙ sym (map_each (sized a.sh) (length a.items.now) g);
       kept = λ k h. t.rest k (le_trans t.inside h);
     }

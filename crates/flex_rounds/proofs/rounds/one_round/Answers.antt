@@ -1,7 +1,7 @@
 -- One round: its parts, put together, are the definition's round. Assumes nothing.
 use mathlib.Core.Path.{sym, ap, ◌∙◌}
-use mathlib.Core.List.{List, map}
-use Rattle.flex.specs.Flex.{Cell}
+use mathlib.Core.List.{map}
+use lib.ListN.{length}
 use Rattle.flex.specs.Steps.{settled}
 use Rattle.flex_rounds.specs.Cells.{cell_at, cells_of}
 use Rattle.lists.proofs.Each.{length-each}
@@ -11,16 +11,15 @@ use Rattle.flex_rounds.proofs.rounds.one_round.Goals as goal
 pub returns : goal.returns
 returns c =
     let a = c.args in
-    let cells = cells_of a.table.now a.from a.n a.frozen.now a.targets.now in
+    let n = length a.items.now in
     let f = c.flex_sizes-sum in
     let r = c.settle_all.ensures in
-    let q = f.ensures.rewritten in
     record {
       cells_are =
           r.cells_are
-          ∙ ap (λ (l : List Cell). map (settled f.result) l) q.cells_are
-          ∙ round_is a.ln cells a.n a.s c.share_of-sh.result f.result
-          (sym (length-each a.n (cell_at a.table.now a.from a.frozen.now a.targets.now)))
+          ∙ ap (map (settled f.result)) f.ensures.rewritten.cells_are
+          ∙ round_is a.ln (cells_of a.items.now a.frozen.now a.targets.now) n a.s c.share_of-sh.result f.result
+          (sym (length-each n (cell_at a.items.now a.frozen.now a.targets.now)))
           c.requires.1 c.share_of-sh.ensures f.ensures.value;
-      kept = λ k h. r.kept k h ∙ q.kept k h;
+      kept = λ k h. r.kept k h ∙ f.ensures.rewritten.kept k h;
     }

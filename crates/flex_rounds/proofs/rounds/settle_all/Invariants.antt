@@ -1,5 +1,5 @@
 -- The cells after a round: those before i are settled, those from i on as they were. Assumes nothing.
-use Rattle.std.proofs.Common.{◌+◌, ◌-◌}
+use Rattle.std.proofs.Common.{length}
 use Rattle.flex.specs.Steps.{settled}
 use Rattle.flex_table.specs.Table.{item_in}
 use Rattle.flex_table.proofs.Each.{Turned}
@@ -8,8 +8,5 @@ use Rattle.flex_rounds.proofs.rounds.settle_all.Given as goal
 
 abbrev pub invariant-loop-i : goal.invariant-loop-i
 invariant-loop-i l =
-    Turned l.n (λ k. settled l.sum (cell_at l.table l.from l.initial.frozen l.initial.targets k))
-    (λ k. item_in l.table (l.from + k)) l.initial.frozen l.initial.targets l.frozen l.targets l.i
-
-abbrev pub decreases-loop-i : goal.decreases-loop-i
-decreases-loop-i l = l.n - l.i
+    Turned (length l.items) (λ k. settled l.sum (cell_at l.items l.initial.frozen l.initial.targets k)) (item_in l.items)
+    l.initial.frozen l.initial.targets l.frozen l.targets l.i

@@ -1,12 +1,9 @@
 -- The sums of a round: those so far are of the first i cells, and a turn adds one. Assumes nothing.
-use mathlib.Core.Path.{◌≡◌, refl, sym, ◌∙◌, subst}
+use mathlib.Core.Path.{◌≡◌, refl, sym, ◌∙◌}
 use mathlib.Core.Bool.{Bool, true, false, cond}
 use Prim.Native.Nat.{ℕ, ◌+◌, ◌≤◌, zero-le}
 use native.Mathlib.Omega.{arith}
-use lib.ListN.{get_or}
-use lib.Ieee.{nan}
 use Rattle.lists.specs.Cells.{each}
-use Rattle.flex.specs.declared.Item.{Item}
 use Rattle.flex.specs.declared.Sums.{Sums}
 use Rattle.flex.specs.Flex.{Cell, outer_now, factor, weight}
 use Rattle.flex.specs.Steps.{Added, Summed}
@@ -31,25 +28,23 @@ few-more false k r i e h = omega arith
 pub loop-i-init : goal.loop-i-init
 loop-i-init c =
     let a = c.args in
-    let g = cell_at a.table.now a.from a.frozen.now a.targets.now in (
-      zero-le,
-      zero-le,
-      record {
+    let g = cell_at a.items.now a.frozen.now a.targets.now in
+    record {
+      few = zero-le;
+      summed = record {
         outer = sym (total-none outer_now g);
         factors = sym (left-none (λ d. factor a.growing d.item) g);
         weights = sym (left-none (λ d. weight a.growing d.item) g);
         number = sym (unfrozen-none g);
-      },
-    )
+      };
+    }
 
 pub loop-i-preserved : goal.loop-i-preserved
 loop-i-preserved c =
     let a = c.args in
     let l = c.loop-i in
-    let g = cell_at a.table.now a.from a.frozen.now a.targets.now in (
-      omega arith,
-      few-more (g l.i).frozen l.s.left c.add_up-s.result.left l.i c.add_up-s.ensures.number l.invariant.1,
-      summed_turn a.growing g l.i l.s c.add_up-s.result l.invariant.2
-          (subst (λ (it : Item). Added a.growing it (get_or a.frozen.now l.i false) (get_or a.targets.now l.i nan)
-          l.s c.add_up-s.result) c.pick-it.ensures c.add_up-s.ensures),
-    )
+    let g = cell_at a.items.now a.frozen.now a.targets.now in
+    record {
+      few = few-more (g l.i).frozen l.s.left c.add_up-s.result.left l.i c.add_up-s.ensures.number l.invariant.few;
+      summed = summed_turn a.growing g l.i l.s c.add_up-s.result l.invariant.summed c.add_up-s.ensures;
+    }
