@@ -1,13 +1,16 @@
 -- What a loop over the items keeps: a sum so far, and a count so far. Assumes nothing.
 use mathlib.Core.Path.{◌≡◌, refl, sym, ap, ap₂, ◌∙◌}
-use mathlib.Core.Bool.{Bool, true, false, cond}
+use mathlib.Core.Bool.{Bool, true, false, cond, not}
 use mathlib.Core.List.{List}
 use Prim.Native.Nat.{ℕ, zero, suc, ◌+◌, ◌≤◌}
 use native.Mathlib.Numerals.{add-one}
 use native.Mathlib.Omega.{arith}
 use lib.Dec.{eqb}
-use lib.ListN.{get_or}
+use lib.ListN.{length, get_or, take}
 use lib.Ieee.{Float}
+use Rattle.std.specs.List.{count_by}
+use Rattle.std.proofs.lemmas.List.{take_all}
+use Rattle.std.proofs.lemmas.List.Sums.{count_by_more_yes, count_by_more_no}
 use Rattle.grid.specs.Floats.{◌⊕◌, nought}
 use Rattle.place_align.specs.Sums.{total_up_to}
 use Rattle.place_align.specs.Axis.{autos}
@@ -37,6 +40,19 @@ autos_pass auto n t p = p ∙ sym (autos_next auto n ∙ ap (λ (b : Bool). cond
 
 pub autos-more : (auto : List ℕ) (n : ℕ) {k : ℕ} → eqb (get_or auto n 0) 0 ≡ false → k ≡ autos auto n → k + 1 ≡ autos auto (n + 1)
 autos-more auto n t p = ap (λ (j : ℕ). j + 1) p ∙ sym (autos_next auto n ∙ ap (λ (b : Bool). cond b (autos auto n) (autos auto n + 1)) t)
+
+-- the first n, as a chain counts them
+autos_taken : (auto : List ℕ) (n : ℕ) → n ≤ length auto → count_by (λ (x : ℕ). not (eqb x 0)) (take n auto) ≡ autos auto n
+unfolding autos
+autos_taken auto zero h = refl
+autos_taken auto (suc n) h = by (eqb (get_or auto n 0) 0) refl (autos_taken auto n (omega arith))
+  where
+    by : (b : Bool) → eqb (get_or auto n 0) 0 ≡ b → count_by (λ (x : ℕ). not (eqb x 0)) (take n auto) ≡ autos auto n → count_by (λ (x : ℕ). not (eqb x 0)) (take (suc n) auto) ≡ cond b (autos auto n) (autos auto n + 1)
+    by true e p = rw (← add-one n) (count_by_more_no (λ (x : ℕ). not (eqb x 0)) auto n 0 h (ap not e) ∙ p)
+    by false e p = rw (← add-one n) (count_by_more_yes (λ (x : ℕ). not (eqb x 0)) auto n 0 h (ap not e) ∙ ap (λ (k : ℕ). k + 1) p)
+
+pub autos_counted : (auto : List ℕ) → count_by (λ (x : ℕ). not (eqb x 0)) auto ≡ autos auto (length auto)
+autos_counted auto = ap (count_by (λ (x : ℕ). not (eqb x 0))) (sym (take_all (length auto) auto (omega arith))) ∙ autos_taken auto (length auto) (omega arith)
 
 pub autos-within : (auto : List ℕ) (n : ℕ) → autos auto n ≤ n
 unfolding autos

@@ -11,23 +11,19 @@ use keywords::ContentAlignment;
 pub fn margin_or(share: f32, auto: u32, x: f32) -> f32
     ensures { result ≡ margin share auto x }
 {
-    if auto == 0 {
-        return grid::clean(x);
-    }
-    share
+    if auto == 0 { grid::clean(x) } else { share }
 }
 
 // The used margins of one side. No entry point.
+#[tactic(auto, using(lists::proofs::Each::written_none, lists::proofs::Each::written_turn))]
 pub fn use_margins(share: f32, auto: &[u32], margins: &[f32], used: &mut [f32])
     requires { (length auto.now ≡ length margins.now) × (length margins.now ≤ length used.old)
         × (length margins.now ≤ 1024) }
     ensures { used.new ≡ overwritten (length margins.now)
         (margin_at share auto.now margins.now) used.old }
 {
-    let mut i = 0;
-    while i < margins.len() {
+    for i in 0..margins.len() {
         used[i] = margin_or(share, auto[i], margins[i]);
-        i += 1;
     }
 }
 
@@ -39,24 +35,32 @@ fn walk_place(i: usize, n: usize, reversed: bool) -> usize
     if reversed { n - 1 - i } else { i }
 }
 
+// The step before item i of n.
+#[tactic(auto, unfolding(crate::specs::Axis::stepped))]
+fn step_before(i: usize, n: usize, reversed: bool, first: f32, later: f32) -> f32
+    requires { i < n }
+    ensures { result ≡ stepped first later reversed n i }
+{
+    if walk_place(i, n, reversed) == 0 {
+        first
+    } else {
+        later
+    }
+}
+
 // The offsets of the first n cells.
+#[tactic(auto, using(lists::proofs::Each::written_none, lists::proofs::Each::written_turn))]
 fn step_all(n: usize, reversed: bool, first: f32, later: f32, cells: &mut [f32])
     requires { (n ≤ length cells.old) × (n ≤ 1024) }
     ensures { cells.new ≡ overwritten n (stepped first later reversed n) cells.old }
 {
-    let mut i = 0;
-    while i < n {
-        if walk_place(i, n, reversed) == 0 {
-            cells[i] = first;
-            i += 1;
-        } else {
-            cells[i] = later;
-            i += 1;
-        }
+    for i in 0..n {
+        cells[i] = step_before(i, n, reversed, first, later);
     }
 }
 
 // Items along a line, or lines along the cross axis, by a content alignment. No entry point.
+#[tactic(auto, using(lists::proofs::Each::written_no_cell), unfolding(crate::specs::Axis::offsets))]
 pub fn align_along(
     free: f32,
     n: usize,

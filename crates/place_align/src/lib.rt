@@ -22,10 +22,12 @@ fn fallback_of(d: Distribution) -> ContentAlignment
     ensures { result ≡ fallback_of d }
 {
     match d {
-        Distribution::Stretch => ContentAlignment::Safe(Position::FlexStart),
-        Distribution::SpaceBetween => ContentAlignment::Safe(Position::FlexStart),
-        Distribution::SpaceAround => ContentAlignment::Safe(Position::Center),
-        Distribution::SpaceEvenly => ContentAlignment::Safe(Position::Center),
+        Distribution::Stretch | Distribution::SpaceBetween => {
+            ContentAlignment::Safe(Position::FlexStart)
+        }
+        Distribution::SpaceAround | Distribution::SpaceEvenly => {
+            ContentAlignment::Safe(Position::Center)
+        }
     }
 }
 
@@ -35,17 +37,8 @@ fn fall_back(free: f32, n: usize, alignment: ContentAlignment) -> ContentAlignme
     ensures { result ≡ fallback free n alignment }
 {
     match alignment {
-        ContentAlignment::Unsafe(p) => ContentAlignment::Unsafe(p),
-        ContentAlignment::Safe(p) => ContentAlignment::Safe(p),
-        ContentAlignment::Spread(d) => {
-            if free <= 0.0 {
-                return fallback_of(d);
-            }
-            if n <= 1 {
-                return fallback_of(d);
-            }
-            ContentAlignment::Spread(d)
-        }
+        ContentAlignment::Spread(d) if free <= 0.0 || n <= 1 => fallback_of(d),
+        _ => alignment,
     }
 }
 
@@ -55,13 +48,8 @@ fn resolve_safety(free: f32, alignment: ContentAlignment) -> Resolved
     ensures { result ≡ made_safe free alignment }
 {
     match alignment {
-        ContentAlignment::Unsafe(p) => Resolved::At(p),
-        ContentAlignment::Safe(p) => {
-            if free <= 0.0 {
-                return Resolved::At(Position::Start);
-            }
-            Resolved::At(p)
-        }
+        ContentAlignment::Safe(_) if free <= 0.0 => Resolved::At(Position::Start),
+        ContentAlignment::Unsafe(p) | ContentAlignment::Safe(p) => Resolved::At(p),
         ContentAlignment::Spread(d) => Resolved::Spread(d),
     }
 }
@@ -94,12 +82,9 @@ pub fn first_offset(free: f32, n: usize, reversed: bool, alignment: Resolved) ->
 {
     match alignment {
         Resolved::At(p) => position_offset(free, reversed, p),
-        Resolved::Spread(d) => match d {
-            Distribution::Stretch => 0.0,
-            Distribution::SpaceBetween => 0.0,
-            Distribution::SpaceAround => free / (n as f32) / 2.0,
-            Distribution::SpaceEvenly => free / ((n + 1) as f32),
-        },
+        Resolved::Spread(Distribution::Stretch | Distribution::SpaceBetween) => 0.0,
+        Resolved::Spread(Distribution::SpaceAround) => free / (n as f32) / 2.0,
+        Resolved::Spread(Distribution::SpaceEvenly) => free / ((n + 1) as f32),
     }
 }
 
@@ -110,13 +95,10 @@ pub fn later_offset(free: f32, n: usize, gap: f32, alignment: Resolved) -> f32
     ensures { result ≡ later_offset free n gap alignment }
 {
     match alignment {
-        Resolved::At(_) => gap,
-        Resolved::Spread(d) => match d {
-            Distribution::Stretch => gap,
-            Distribution::SpaceBetween => gap + free / ((n - 1) as f32),
-            Distribution::SpaceAround => gap + free / (n as f32),
-            Distribution::SpaceEvenly => gap + free / ((n + 1) as f32),
-        },
+        Resolved::At(_) | Resolved::Spread(Distribution::Stretch) => gap,
+        Resolved::Spread(Distribution::SpaceBetween) => gap + free / ((n - 1) as f32),
+        Resolved::Spread(Distribution::SpaceAround) => gap + free / (n as f32),
+        Resolved::Spread(Distribution::SpaceEvenly) => gap + free / ((n + 1) as f32),
     }
 }
 
@@ -126,13 +108,8 @@ pub fn align_item(free: f32, reversed: bool, alignment: SelfAlignment) -> f32
     ensures { result ≡ self_offset free reversed alignment }
 {
     match alignment {
-        SelfAlignment::Unsafe(p) => position_offset(free, reversed, p),
-        SelfAlignment::Safe(p) => {
-            if free < 0.0 {
-                return 0.0;
-            }
-            position_offset(free, reversed, p)
-        }
+        SelfAlignment::Safe(_) if free < 0.0 => 0.0,
+        SelfAlignment::Unsafe(p) | SelfAlignment::Safe(p) => position_offset(free, reversed, p),
         SelfAlignment::Stretch => position_offset(free, reversed, Position::FlexStart),
     }
 }

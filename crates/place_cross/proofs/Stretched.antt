@@ -5,7 +5,7 @@ use lib.Ieee.{Float, of_int, of_bits, add, sub, mul, div, lt}
 use Rattle.grid.specs.Grid.{cleaned}
 use Rattle.keywords.specs.declared.Distribution.TheVariants.{Stretch}
 use Rattle.keywords.specs.declared.ContentAlignment.TheVariants.{Spread}
-use Rattle.keywords.specs.declared.Bound.TheVariants.{Absent, Given}
+use Rattle.std.specs.declared.option.Option.TheVariants.{None, Some}
 use Rattle.keywords.specs.declared.Wrap.TheVariants as wrap
 use Rattle.place_size.specs.declared.container.Cross.{Cross}
 use Rattle.grid.specs.Floats.{counted, gaps}
@@ -14,7 +14,7 @@ use Rattle.place_size.specs.Container.{bounded}
 use Rattle.place_cross.specs.Lines.{gain_to, gain, grown, grown_at, line_gain}
 
 container : Cross
-container = record { inner = Given (counted 100); minimum = Absent; maximum = Absent; gap = counted 10; wrap = wrap.Wrap }
+container = record { inner = Some (counted 100); minimum = None; maximum = None; gap = counted 10; wrap = wrap.Wrap }
 
 lines : List Float
 lines = counted 20 ∷ counted 30 ∷ []

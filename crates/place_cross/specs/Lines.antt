@@ -6,8 +6,8 @@ use Rattle.grid.specs.Grid.{cleaned}
 use Rattle.keywords.specs.declared.Distribution.TheVariants.{Stretch, SpaceBetween, SpaceAround, SpaceEvenly}
 use Rattle.keywords.specs.declared.ContentAlignment.{ContentAlignment}
 use Rattle.keywords.specs.declared.ContentAlignment.TheVariants.{Unsafe, Safe, Spread}
-use Rattle.keywords.specs.declared.Bound.{Bound}
-use Rattle.keywords.specs.declared.Bound.TheVariants.{Absent, Given}
+use Rattle.std.specs.declared.option.Option.{Option}
+use Rattle.std.specs.declared.option.Option.TheVariants.{None, Some}
 use Rattle.place_size.specs.declared.container.Cross.{Cross}
 use Rattle.grid.specs.Floats.{◌⊕◌, ◌⊖◌, ◌⊘◌, nought, counted, gaps}
 use Rattle.lists.specs.Cells.{overwritten}
@@ -26,18 +26,18 @@ stretches (Spread SpaceAround) = false
 stretches (Spread SpaceEvenly) = false
 
 -- the first bound where it is given, "else" the second
-abbrev pub else : Bound → Bound → Bound
-else Absent b = b
-else (Given x) b = Given x
+abbrev pub else : Option Float → Option Float → Option Float
+else None b = b
+else (Some x) b = Some x
 
 -- "the definite (else minimum) size"
-abbrev pub stretch_target : Cross → Bound
+abbrev pub stretch_target : Cross → Option Float
 stretch_target c = else (inner_size c) c.minimum
 
 -- "if lines plus gaps fall short of the .. size, each gains the rest ÷ line count", otherwise nothing
-unfoldable pub gain_to : Bound → Float → ℕ → Float
-gain_to Absent used n = nought
-gain_to (Given size) used n = cond (lt used size) ((size ⊖ used) ⊘ counted n) nought
+unfoldable pub gain_to : Option Float → Float → ℕ → Float
+gain_to None used n = nought
+gain_to (Some size) used n = cond (lt used size) ((size ⊖ used) ⊘ counted n) nought
 
 unfoldable pub gain : Cross → ContentAlignment → Float → ℕ → Float
 gain c alignment used n = cond (stretches alignment) (gain_to (stretch_target c) used n) nought

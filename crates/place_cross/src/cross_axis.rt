@@ -1,10 +1,12 @@
 // The items of one line across it: used cross sizes (CSS-FLEX 9.4, step 11), auto margins and `align-self` (9.6).
-ghost use Rattle.std.specs.Prelude.{◌≡◌, ◌&&◌, ◌<◌, length};
-ghost use Rattle.place_size.specs.CrossSize.{cross_lists};
-ghost use Rattle.place_cross.specs.CrossAxis.{is_stretched, used_size, free_cross, auto_margin, start_margin};
+ghost use Rattle.std.specs.Prelude.{◌≡◌};
+ghost use Rattle.place_size.specs.CrossSize.{count};
+ghost use Rattle.place_size.specs.Lists.{lists_of};
+ghost use Rattle.place_cross.specs.CrossAxis.{has_auto, is_stretched, used_size, free_cross, auto_margin, start_margin};
 ghost use Rattle.place_cross.specs.CrossAxis.{end_margin, cross_offset, placed_item, Across};
 ghost use Rattle.place_cross.specs.Parts.{SameLengths, AcrossRoom};
 
+use crate::{AcrossCells, AcrossLists};
 use keywords::SelfAlignment;
 use place_size::cross_size;
 use place_size::cross_size::CrossItem;
@@ -18,34 +20,30 @@ pub struct CrossPlace {
     pub offset: f32,
 }
 
+fn has_auto(it: CrossItem) -> bool
+    ensures { result ≡ has_auto it }
+{
+    it.auto_start || it.auto_end
+}
+
 // An item stretches where its size and neither of its margins is against it.
 #[tactic(auto, unfolding(crate::specs::CrossAxis::is_stretched))]
 fn is_stretched(it: CrossItem, alignment: SelfAlignment, auto_size: bool) -> bool
     ensures { result ≡ is_stretched it alignment auto_size }
 {
-    match alignment {
-        SelfAlignment::Unsafe(_) => false,
-        SelfAlignment::Safe(_) => false,
-        SelfAlignment::Stretch => {
-            if it.auto_start {
-                return false;
-            }
-            if it.auto_end {
-                return false;
-            }
-            auto_size
-        }
-    }
+    matches!(alignment, SelfAlignment::Stretch) && !has_auto(it) && auto_size
 }
 
 #[tactic(auto, unfolding(crate::specs::CrossAxis::used_size))]
 fn used_cross_size(line: f32, it: CrossItem, stretched: bool) -> f32
     ensures { result ≡ used_size line it stretched }
 {
-    if stretched {
-        return cross_size::clamp_item(it, line - cross_size::margin_sum(it));
-    }
-    cross_size::clamp_item(it, it.measured)
+    let size = if stretched {
+        line - cross_size::margin_sum(it)
+    } else {
+        it.measured
+    };
+    cross_size::clamp_item(it, size)
 }
 
 #[tactic(auto, unfolding(crate::specs::CrossAxis::free_cross))]
@@ -55,21 +53,16 @@ fn free_cross_space(line: f32, it: CrossItem, size: f32) -> f32
     line - (size + cross_size::margin_sum(it))
 }
 
-fn are_both(a: bool, b: bool) -> bool
-    ensures { result ≡ (a && b) }
-{
-    if a { b } else { false }
-}
-
 // What an auto margin takes of free space of 0 or more: all, or half of it beside another.
 #[tactic(auto, unfolding(crate::specs::CrossAxis::auto_margin))]
 fn auto_margin(free: f32, it: CrossItem) -> f32
     ensures { result ≡ auto_margin free it }
 {
-    if are_both(it.auto_start, it.auto_end) {
-        return free / 2.0;
+    if it.auto_start && it.auto_end {
+        free / 2.0
+    } else {
+        free
     }
-    free
 }
 
 // On a line too short for an item and its margins an auto start margin is 0 ..
@@ -79,11 +72,13 @@ fn start_margin(free: f32, it: CrossItem) -> f32
 {
     if it.auto_start {
         if free < 0.0 {
-            return 0.0;
+            0.0
+        } else {
+            auto_margin(free, it)
         }
-        return auto_margin(free, it);
+    } else {
+        it.start
     }
-    it.start
 }
 
 // .. and what is missing is taken off the end margin, auto or given, so that all together is as large as the line.
@@ -93,14 +88,15 @@ fn end_margin(free: f32, it: CrossItem) -> f32
 {
     if it.auto_end {
         if free < 0.0 {
-            return free;
+            free
+        } else {
+            auto_margin(free, it)
         }
-        return auto_margin(free, it);
+    } else if it.auto_start && free < 0.0 {
+        it.end + free
+    } else {
+        it.end
     }
-    if are_both(it.auto_start, free < 0.0) {
-        return it.end + free;
-    }
-    it.end
 }
 
 // An auto margin leaves nothing to align.
@@ -108,13 +104,11 @@ fn end_margin(free: f32, it: CrossItem) -> f32
 fn cross_offset(free: f32, reversed: bool, it: CrossItem, alignment: SelfAlignment) -> f32
     ensures { result ≡ cross_offset free reversed it alignment }
 {
-    if it.auto_start {
-        return 0.0;
+    if has_auto(it) {
+        0.0
+    } else {
+        place_align::align_item(free, reversed, alignment)
     }
-    if it.auto_end {
-        return 0.0;
-    }
-    place_align::align_item(free, reversed, alignment)
 }
 
 #[tactic(auto, unfolding(crate::specs::CrossAxis::placed_item))]
@@ -138,53 +132,26 @@ fn place_item(
 }
 
 // CSS-FLEX 9.6 of one accepted line: no entry point, since the lists are of one length, and there is room.
-pub fn place_items<'a>(
-    line: f32,
-    reversed: bool,
-    measured: &'a [f32],
-    minimum: &'a [f32],
-    maximum: &'a [f32],
-    capped: &'a [u32],
-    edges: &'a [f32],
-    start: &'a [f32],
-    end: &'a [f32],
-    auto_start: &'a [u32],
-    auto_end: &'a [u32],
-    alignment: &'a [u32],
-    auto_size: &'a [u32],
-    sizes: &mut [f32],
-    used_start: &mut [f32],
-    used_end: &mut [f32],
-    offsets: &mut [f32],
-)
-    requires same_lengths { SameLengths (cross_lists measured.now minimum.now maximum.now capped.now edges.now start.now
-        end.now auto_start.now auto_end.now) alignment.now auto_size.now }
-    requires across_room { AcrossRoom (length measured.now) sizes.old used_start.old used_end.old offsets.old }
-    ensures { Across line reversed (cross_lists measured.now minimum.now
-        maximum.now
-        capped.now edges.now start.now end.now auto_start.now
-        auto_end.now) alignment.now auto_size.now sizes.old
-        used_start.old used_end.old offsets.old sizes.new
-        used_start.new used_end.new offsets.new }
+pub fn place_items(line: f32, reversed: bool, items: AcrossLists, cells: &mut AcrossCells)
+    requires same_lengths { SameLengths (lists_of items.cross) items.alignment.now items.auto_size.now }
+    requires across_room { AcrossRoom (count (lists_of items.cross)) cells.old.sizes.now cells.old.used_start.now
+        cells.old.used_end.now cells.old.offsets.now }
+    ensures { Across line reversed (lists_of items.entry.cross) items.entry.alignment.now items.entry.auto_size.now
+        cells.old.sizes.now cells.old.used_start.now cells.old.used_end.now cells.old.offsets.now
+        cells.new.sizes.now cells.new.used_start.now cells.new.used_end.now cells.new.offsets.now }
 {
     let height = grid::clean(line);
-    let mut i = 0;
-    while i < measured.len() {
-        let it = cross_size::item_at(
-            measured, minimum, maximum, capped, edges, start, end, auto_start, auto_end, i,
-        );
-        let sizing = auto_size[i];
+    for i in 0..items.cross.measured.len() {
         let p = place_item(
             height,
             reversed,
-            it,
-            keywords::self_of(alignment[i]),
-            sizing != 0,
+            cross_size::item_at(items.cross, i),
+            keywords::self_of(items.alignment[i]),
+            items.auto_size[i] != 0,
         );
-        sizes[i] = p.size;
-        used_start[i] = p.start;
-        used_end[i] = p.end;
-        offsets[i] = p.offset;
-        i += 1;
+        cells.sizes[i] = p.size;
+        cells.used_start[i] = p.start;
+        cells.used_end[i] = p.end;
+        cells.offsets[i] = p.offset;
     }
 }

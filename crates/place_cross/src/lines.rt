@@ -5,7 +5,7 @@ ghost use Rattle.place_align.specs.Sums.{total_up_to};
 ghost use Rattle.place_cross.specs.Lines.{stretches, stretch_target, gain_to, gain, grown, grown_at, Aligned};
 
 use grid::floats::sum_axis_gaps;
-use keywords::{Bound, ContentAlignment, Distribution};
+use keywords::{ContentAlignment, Distribution};
 use place_align::axis;
 use place_size::container;
 use place_size::container::Cross;
@@ -13,42 +13,25 @@ use place_size::container::Cross;
 fn is_stretch(alignment: ContentAlignment) -> bool
     ensures { result ≡ stretches alignment }
 {
-    match alignment {
-        ContentAlignment::Unsafe(_) => false,
-        ContentAlignment::Safe(_) => false,
-        ContentAlignment::Spread(d) => match d {
-            Distribution::Stretch => true,
-            Distribution::SpaceBetween => false,
-            Distribution::SpaceAround => false,
-            Distribution::SpaceEvenly => false,
-        },
-    }
+    matches!(alignment, ContentAlignment::Spread(Distribution::Stretch))
 }
 
 // The size that lines are stretched to: the definite one, else the minimum.
-fn stretch_target(c: Cross) -> Bound
+fn stretch_target(c: Cross) -> Option<f32>
     ensures { result ≡ stretch_target c }
 {
-    match container::inner_size(c) {
-        Bound::Absent => c.minimum,
-        Bound::Given(inner) => Bound::Given(inner),
-    }
+    container::inner_size(c).or(c.minimum)
 }
 
 // What each of n lines gains, where lines and gaps together are `used`.
 #[tactic(auto, unfolding(crate::specs::Lines::gain_to))]
-fn gain_to(target: Bound, used: f32, n: usize) -> f32
+fn gain_to(target: Option<f32>, used: f32, n: usize) -> f32
     requires { n ≤ 1024 }
     ensures { result ≡ gain_to target used n }
 {
     match target {
-        Bound::Absent => 0.0,
-        Bound::Given(size) => {
-            if used < size {
-                return (size - used) / (n as f32);
-            }
-            0.0
-        }
+        Some(size) if used < size => (size - used) / (n as f32),
+        _ => 0.0,
     }
 }
 
@@ -58,9 +41,10 @@ fn line_gain(c: Cross, alignment: ContentAlignment, used: f32, n: usize) -> f32
     ensures { result ≡ gain c alignment used n }
 {
     if is_stretch(alignment) {
-        return gain_to(stretch_target(c), used, n);
+        gain_to(stretch_target(c), used, n)
+    } else {
+        0.0
     }
-    0.0
 }
 
 #[tactic(auto, unfolding(crate::specs::Lines::grown))]
@@ -71,28 +55,26 @@ fn grow_line(more: f32, x: f32) -> f32
 }
 
 // The sum of the lines, each with its gain.
+#[tactic(auto, using(place_align::proofs::Totals::total_turn), unfolding(place_align::specs::Sums::total_up_to))]
 fn sum_lines(more: f32, lines: &[f32]) -> f32
     requires { length lines.now ≤ 1024 }
     ensures { result ≡ total_up_to (grown_at more lines.now) (length lines.now) }
 {
     let mut sum = 0.0;
-    let mut i = 0;
-    while i < lines.len() {
-        sum = sum + grow_line(more, lines[i]);
-        i += 1;
+    for &x in lines {
+        sum += grow_line(more, x);
     }
     sum
 }
 
+#[tactic(auto, using(lists::proofs::Each::written_none, lists::proofs::Each::written_turn))]
 fn stretch_lines(more: f32, lines: &[f32], sizes: &mut [f32])
     requires { (length lines.now ≤ length sizes.old) × (length lines.now ≤ 1024) }
     ensures { sizes.new ≡ overwritten (length lines.now) (grown_at more lines.now)
         sizes.old }
 {
-    let mut i = 0;
-    while i < lines.len() {
-        sizes[i] = grow_line(more, lines[i]);
-        i += 1;
+    for (i, &x) in lines.iter().enumerate() {
+        sizes[i] = grow_line(more, x);
     }
 }
 
@@ -110,7 +92,6 @@ pub fn align_lines(
         sizes.new offsets.new }
 {
     let cross = container::read_cross(c);
-    let wrap = cross.wrap;
     let n = lines.len();
     let gaps = sum_axis_gaps(cross.gap, n);
     let more = line_gain(cross, alignment, sum_lines(0.0, lines) + gaps, n);
@@ -123,7 +104,7 @@ pub fn align_lines(
         n,
         cross.gap,
         alignment,
-        keywords::is_reversed(wrap),
+        keywords::is_reversed(cross.wrap),
         offsets,
     );
     grid::clean(size)

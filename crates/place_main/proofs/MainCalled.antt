@@ -1,5 +1,5 @@
 -- The call for the main axis: its numbers' marks are its checks, a refusal changes nothing, and any two results that its contract allows are equal. Assumes nothing.
-use mathlib.Core.Path.{◌≡◌, sym, ap, ap₂, ◌∙◌, subst}
+use mathlib.Core.Path.{◌≡◌, refl, sym, ap, ap₂, ◌∙◌, subst}
 use mathlib.Core.Bool.{Bool, not}
 use mathlib.Core.List.{List, [], ◌∷◌, ◌++◌}
 use Prim.Native.Nat.{ℕ, ◌+◌, ◌≤◌, min}
@@ -7,12 +7,9 @@ use lib.Dec.{eqb}
 use lib.ListN.{length}
 use lib.Ieee.{Float}
 use Rattle.checks.specs.declared.Refusal.{Refusal}
-use Rattle.checks.specs.declared.Verdict.{Verdict}
-use Rattle.checks.specs.declared.Verdict.TheVariants.{Passed, Refused}
-use Rattle.checks.specs.declared.Answer.{Answer}
-use Rattle.checks.specs.declared.Answer.TheVariants.{Done}
-use Rattle.checks.specs.Domain.{checked, then}
-use Rattle.checks.specs.Marks.{as_answer, least_of, least_up_to, judged}
+use Rattle.std.specs.declared.result.Result.TheVariants.{Ok, Err}
+use Rattle.checks.specs.Domain.{Verdict, checked, then, Answer, done}
+use Rattle.checks.specs.Marks.{least_of, least_up_to, judged}
 use Rattle.keywords.specs.declared.ContentAlignment.{ContentAlignment}
 use Rattle.keywords.specs.Alignment.{content_of}
 use Rattle.place_main.specs.MainAxis.{LineLists, count, Spaced}
@@ -32,7 +29,7 @@ module _ (inner gap : Float) (justify reversed : ℕ) (l : LineLists) where
       → t ≡ least_up_to (λ i. least_of (float_at Worked l.targets i) (i + 1)) (count l)
       → s ≡ least_up_to (λ i. least_of (beside_at Margin 0 l.start l.auto_start i) (i + 1)) (length l.start)
       → e ≡ least_up_to (λ i. least_of (beside_at Margin 0 l.end l.auto_end i) (i + 1)) (length l.end)
-      → judged (min c (min t (min s e))) ≡ checked (main_input inner gap justify reversed l) Passed
+      → judged (min c (min t (min s e))) ≡ checked (main_input inner gap justify reversed l) (Ok tt)
   main_checked v p q r u =
       let n = count l in
       let starts = r ∙ ap (least_up_to (λ i. least_of (beside_at Margin 0 l.start l.auto_start i) (i + 1))) v.start in
@@ -44,38 +41,35 @@ module _ (inner gap : Float) (justify reversed : ℕ) (l : LineLists) where
       ∙ judged_is (main_input inner gap justify reversed l) v.few
 
   module _ (o s e : List Float) where
-    abbrev rooms : List ℕ
-    rooms = length o ∷ length s ∷ length e ∷ []
+    abbrev Shaped : Verdict → Type 0
+    Shaped v = v ≡ shape_of (lengths l) (length o ∷ length s ∷ length e ∷ []) (count l)
+
+    abbrev Checked : Verdict → Type 0
+    Checked v = v ≡ checked (main_input inner gap justify reversed l) (Ok tt)
 
     -- a passed shape: the lists are even, and there is room
-    pub main_even : shape_of (lengths l) (length o ∷ length s ∷ length e ∷ []) (count l) ≡ Passed → MainOneLength l × ((count l ≤ length o) × (count l ≤ length s) × (count l ≤ length e))
+    pub main_even : Shaped (Ok tt) → MainOneLength l × ((count l ≤ length o) × (count l ≤ length s) × (count l ≤ length e))
     main_even p =
-        let q = shaped (count l) (length l.start ∷ length l.end ∷ length l.auto_start ∷ length l.auto_end ∷ []) rooms p in
+        let q = shaped (count l) (length l.start ∷ length l.end ∷ length l.auto_start ∷ length l.auto_end ∷ []) (length o ∷ length s ∷ length e ∷ []) (sym p) in
         (record { few = q.0; start = q.1.0; end = q.1.1.0; auto_start = q.1.1.1.0; auto_end = q.1.1.1.1.0 }, (q.2.0, q.2.1.0, q.2.1.1.0))
 
-    -- refused by its shape, or by its numbers
-    pub main_shape_refused : {v : Verdict} {why : Refusal} {r : Answer} → v ≡ shape_of (lengths l) (length o ∷ length s ∷ length e ∷ []) (count l) → v ≡ Refused why → r ≡ as_answer v 0 0
-        → main_result r o s e ≡ main_call inner gap justify reversed l o s e
+    -- what the call leaves by its verdict
+    into : {v w : Verdict} → Shaped v → then v (checked (main_input inner gap justify reversed l) (Ok tt)) ≡ w → main_into w inner gap justify reversed l o s e ≡ main_call inner gap justify reversed l o s e
     unfolding main_verdict
-    main_shape_refused p q a =
-        ap (λ (x : Answer). main_result x o s e) (a ∙ ap (λ (x : Verdict). as_answer x 0 0) q)
-        ∙ sym (ap (λ (x : Verdict). main_into (then x (checked (main_input inner gap justify reversed l) Passed)) inner gap justify reversed l o s e) (sym p ∙ q))
+    into p q = ap (λ (x : Verdict). main_into x inner gap justify reversed l o s e) (sym q ∙ ap (λ (x : Verdict). then x (checked (main_input inner gap justify reversed l) (Ok tt))) p)
 
-    module _ {v w : Verdict} (p : v ≡ shape_of (lengths l) (length o ∷ length s ∷ length e ∷ []) (count l)) (p-passed : v ≡ Passed) (q : w ≡ checked (main_input inner gap justify reversed l) Passed) where
-      verdict_is : main_verdict inner gap justify reversed l rooms ≡ w
-      unfolding main_verdict
-      verdict_is = ap (λ (x : Verdict). then x (checked (main_input inner gap justify reversed l) Passed)) (sym p ∙ p-passed) ∙ sym q
+    -- refused by its shape, or by its numbers
+    pub main_shape_refused : {r : Answer} {why : Refusal} → Shaped (Err why) → r ≡ Err why → main_result r o s e ≡ main_call inner gap justify reversed l o s e
+    main_shape_refused p h = ap (λ (x : Answer). main_result x o s e) h ∙ into p refl
 
-      pub main_numbers_refused : {why : Refusal} {r : Answer} → w ≡ Refused why → r ≡ as_answer w 0 0 → main_result r o s e ≡ main_call inner gap justify reversed l o s e
-      main_numbers_refused h a =
-          ap (λ (x : Answer). main_result x o s e) (a ∙ ap (λ (x : Verdict). as_answer x 0 0) h)
-          ∙ sym (ap (λ (x : Verdict). main_into x inner gap justify reversed l o s e) (verdict_is ∙ h))
+    pub main_numbers_refused : {r : Answer} {why : Refusal} → Shaped (Ok tt) → Checked (Err why) → r ≡ Err why → main_result r o s e ≡ main_call inner gap justify reversed l o s e
+    main_numbers_refused p q h = ap (λ (x : Answer). main_result x o s e) h ∙ into p (sym q)
 
-      pub main_placed : {o₁ s₁ e₁ : List Float} → w ≡ Passed → Spaced inner gap (content_of justify) (not (eqb reversed 0)) l o s e o₁ s₁ e₁ → main_result (Done 0 0) o₁ s₁ e₁ ≡ main_call inner gap justify reversed l o s e
-      main_placed h t = cc_result t.offsets_are t.starts_are t.ends_are ∙ sym (ap (λ (x : Verdict). main_into x inner gap justify reversed l o s e) (verdict_is ∙ h))
-        where
-          cc_result : {a b c x y z : List Float} → a ≡ x → b ≡ y → c ≡ z → main_result (Done 0 0) a b c ≡ main_result (Done 0 0) x y z
-          cc_result f g k = rw (f, g, k)
+    pub main_placed : {o₁ s₁ e₁ : List Float} → Shaped (Ok tt) → Checked (Ok tt) → Spaced inner gap (content_of justify) (not (eqb reversed 0)) l o s e o₁ s₁ e₁ → main_result (done 0 0) o₁ s₁ e₁ ≡ main_call inner gap justify reversed l o s e
+    main_placed p q t = same t.offsets_are t.starts_are t.ends_are ∙ into p (sym q)
+      where
+        same : {a b c x y z : List Float} → a ≡ x → b ≡ y → c ≡ z → main_result (done 0 0) a b c ≡ main_result (done 0 0) x y z
+        same f g k = rw (f, g, k)
 
     -- the contract leaves no choice
     pub main_one : (a b : MainResult) → a ≡ main_call inner gap justify reversed l o s e → b ≡ main_call inner gap justify reversed l o s e → a ≡ b

@@ -1,3 +1,4 @@
 pub mod MainAxis
 pub mod MainCall
 pub mod Parts
+pub mod Lists

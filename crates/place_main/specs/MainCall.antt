@@ -1,13 +1,8 @@
 -- The call for the main axis of one line: what it takes, checks and answers. Assumes nothing.
 use Rattle.std.specs.Prelude.{not, List, [], ◌∷◌, ◌++◌, ℕ, eqb, length, Float}
-use Rattle.checks.specs.Domain.{Number, float, code, Input, checked, then}
+use Rattle.std.specs.declared.result.Result.TheVariants.{Ok, Err}
+use Rattle.checks.specs.Domain.{Number, float, code, Input, Verdict, checked, then, Answer, done}
 use Rattle.checks.specs.declared.Kind.TheVariants.{Size, Margin, Worked}
-use Rattle.checks.specs.declared.Verdict.{Verdict}
-use Rattle.checks.specs.declared.Verdict.TheVariants.{Passed}
-use Rattle.checks.specs.declared.Verdict.TheVariants as verdict
-use Rattle.checks.specs.declared.Answer.{Answer}
-use Rattle.checks.specs.declared.Answer.TheVariants.{Done}
-use Rattle.checks.specs.declared.Answer.TheVariants as answer
 use Rattle.keywords.specs.Alignment.{content_of}
 use Rattle.place_main.specs.MainAxis.{LineLists, count, placed_offsets, used_margins}
 use Rattle.checks.specs.Shapes.{shape_of}
@@ -33,7 +28,7 @@ lengths l =
 -- checks 1 to 5; "calls .. on worked-out targets, never give 6"
 unfoldable pub main_verdict : Float → Float → ℕ → ℕ → LineLists → List ℕ → Verdict
 main_verdict inner gap justify reversed l rooms =
-    then (shape_of (lengths l) rooms (count l)) (checked (main_input inner gap justify reversed l) Passed)
+    then (shape_of (lengths l) rooms (count l)) (checked (main_input inner gap justify reversed l) (Ok tt))
 
 -- the call's answer, and its lent lists as it returns: offsets, used start margins, used end margins
 pub record MainResult : Type 0 where
@@ -47,9 +42,9 @@ main_result r o s e = record { answer = r; offsets = o; starts = s; ends = e }
 
 -- a refusal changes no cell; the call works out no lines and no rounds
 abbrev pub main_into : Verdict → Float → Float → ℕ → ℕ → LineLists → List Float → List Float → List Float → MainResult
-main_into (verdict.Refused why) inner gap justify reversed l o s e = main_result (answer.Refused why) o s e
-main_into Passed inner gap justify reversed l o s e =
-    main_result (Done 0 0) (placed_offsets inner gap (content_of justify) (not (eqb reversed 0)) l o)
+main_into (Err why) inner gap justify reversed l o s e = main_result (Err why) o s e
+main_into (Ok tt) inner gap justify reversed l o s e =
+    main_result (done 0 0) (placed_offsets inner gap (content_of justify) (not (eqb reversed 0)) l o)
     (used_margins inner gap l l.auto_start l.start s) (used_margins inner gap l l.auto_end l.end e)
 
 -- THE CALL ("Main axis"): it refuses by checks 1 to 5 and changes nothing, or it leaves the items' offsets and used

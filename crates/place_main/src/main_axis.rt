@@ -2,10 +2,11 @@
 ghost use Rattle.std.specs.Prelude.{◌≡◌, ◌≤◌, length};
 ghost use Rattle.place_align.specs.Sums.{total_up_to};
 ghost use Rattle.place_align.specs.Axis.{autos};
-ghost use Rattle.place_main.specs.MainAxis.{line_lists, main_outer, outer_at, free_space, auto_share, justified};
-ghost use Rattle.place_main.specs.MainAxis.{Spaced};
+ghost use Rattle.place_main.specs.MainAxis.{main_outer, count, outer_at, free_space, auto_share, justified, Spaced};
+ghost use Rattle.place_main.specs.Lists.{lists_of};
 ghost use Rattle.place_main.specs.Parts.{MainOneLength};
 
+use crate::LineLists;
 use grid::floats::sum_axis_gaps;
 use keywords::ContentAlignment;
 use place_align::axis;
@@ -21,44 +22,32 @@ fn outer_size(target: f32, auto_start: u32, start: f32, auto_end: u32, end: f32)
 }
 
 // The finished sum of the outer sizes.
-fn outer_sum<'a>(
-    targets: &'a [f32],
-    start: &'a [f32],
-    end: &'a [f32],
-    auto_start: &'a [u32],
-    auto_end: &'a [u32],
-) -> f32
-    requires { MainOneLength (line_lists targets.now start.now end.now auto_start.now auto_end.now) }
-    ensures { result ≡ total_up_to (outer_at (line_lists targets.now start.now end.now
-        auto_start.now auto_end.now)) (length targets.now) }
+#[tactic(auto, using(place_align::proofs::Totals::total_turn), unfolding(place_align::specs::Sums::total_up_to))]
+fn outer_sum(items: LineLists) -> f32
+    requires { MainOneLength (lists_of items) }
+    ensures { result ≡ total_up_to (outer_at (lists_of items.entry)) (count (lists_of items.entry)) }
 {
     let mut sum = 0.0;
-    let mut i = 0;
-    while i < targets.len() {
-        sum = sum + outer_size(targets[i], auto_start[i], start[i], auto_end[i], end[i]);
-        i += 1;
+    for i in 0..items.targets.len() {
+        sum += outer_size(
+            items.targets[i],
+            items.auto_start[i],
+            items.start[i],
+            items.auto_end[i],
+            items.end[i],
+        );
     }
     sum
 }
 
 // The inner size less the used space.
 #[tactic(auto, unfolding(crate::specs::MainAxis::free_space))]
-fn free_space<'a>(
-    inner: f32,
-    gap: f32,
-    targets: &'a [f32],
-    start: &'a [f32],
-    end: &'a [f32],
-    auto_start: &'a [u32],
-    auto_end: &'a [u32],
-) -> f32
-    requires { MainOneLength (line_lists targets.now start.now end.now auto_start.now auto_end.now) }
-    ensures { result ≡ free_space inner gap (line_lists targets.now start.now end.now
-        auto_start.now auto_end.now) }
+fn free_space(inner: f32, gap: f32, items: LineLists) -> f32
+    requires { MainOneLength (lists_of items) }
+    ensures { result ≡ free_space inner gap (lists_of items.entry) }
 {
-    let between = sum_axis_gaps(grid::clean(gap), targets.len());
-    let taken = between + outer_sum(targets, start, end, auto_start, auto_end);
-    grid::clean(inner) - taken
+    let between = sum_axis_gaps(grid::clean(gap), items.targets.len());
+    grid::clean(inner) - (between + outer_sum(items))
 }
 
 // How many of one side's margins are auto.
@@ -66,17 +55,7 @@ fn count_auto(auto: &[u32]) -> usize
     requires { length auto.now ≤ 1024 }
     ensures { result ≡ autos auto.now (length auto.now) }
 {
-    let mut k = 0;
-    let mut i = 0;
-    while i < auto.len() {
-        if auto[i] == 0 {
-            i += 1;
-        } else {
-            k += 1;
-            i += 1;
-        }
-    }
-    k
+    auto.iter().filter(|&&code| code != 0).count()
 }
 
 // What each auto margin gets: an equal part of free space above 0.0.
@@ -85,12 +64,11 @@ fn auto_share(free: f32, count: usize) -> f32
     requires { count ≤ 2048 }
     ensures { result ≡ auto_share free count }
 {
-    if free > 0.0 {
-        if count > 0 {
-            return free / (count as f32);
-        }
+    if free > 0.0 && count > 0 {
+        free / (count as f32)
+    } else {
+        0.0
     }
-    0.0
 }
 
 // What auto margins leave for `justify-content`.
@@ -98,47 +76,34 @@ fn auto_share(free: f32, count: usize) -> f32
 fn justified_space(free: f32, count: usize) -> f32
     ensures { result ≡ justified free count }
 {
-    if free > 0.0 {
-        if count > 0 {
-            return 0.0;
-        }
-    }
-    free
+    if free > 0.0 && count > 0 { 0.0 } else { free }
 }
 
 // CSS-FLEX 9.5 of one accepted line: no entry point, since the lists are of one length, and there is room.
-pub fn distribute_remaining_free_space<'a>(
+pub fn distribute_remaining_free_space(
     inner: f32,
     gap: f32,
     justify: ContentAlignment,
     reversed: bool,
-    targets: &'a [f32],
-    start: &'a [f32],
-    end: &'a [f32],
-    auto_start: &'a [u32],
-    auto_end: &'a [u32],
+    items: LineLists,
     offsets: &mut [f32],
     used_start: &mut [f32],
     used_end: &mut [f32],
 )
-    requires main_one_length { MainOneLength (line_lists targets.now start.now end.now auto_start.now auto_end.now) }
-    requires targets_in_bounds { (length targets.now ≤ length offsets.old)
-        × (length targets.now ≤ length used_start.old)
-        × (length targets.now ≤ length used_end.old) }
-    ensures { Spaced inner gap justify reversed (line_lists targets.now start.now
-        end.now auto_start.now auto_end.now) offsets.old
-        used_start.old used_end.old offsets.new used_start.new
-        used_end.new }
+    requires main_one_length { MainOneLength (lists_of items) }
+    requires targets_in_bounds { (count (lists_of items) ≤ length offsets.old)
+        × (count (lists_of items) ≤ length used_start.old) × (count (lists_of items) ≤ length used_end.old) }
+    ensures { Spaced inner gap justify reversed (lists_of items.entry) offsets.old used_start.old used_end.old
+        offsets.new used_start.new used_end.new }
 {
-    let free = free_space(inner, gap, targets, start, end, auto_start, auto_end);
-    let count = count_auto(auto_start) + count_auto(auto_end);
+    let free = free_space(inner, gap, items);
+    let count = count_auto(items.auto_start) + count_auto(items.auto_end);
     let share = auto_share(free, count);
-    axis::use_margins(share, auto_start, start, used_start);
-    axis::use_margins(share, auto_end, end, used_end);
-    let left = justified_space(free, count);
+    axis::use_margins(share, items.auto_start, items.start, used_start);
+    axis::use_margins(share, items.auto_end, items.end, used_end);
     axis::align_along(
-        left,
-        targets.len(),
+        justified_space(free, count),
+        items.targets.len(),
         grid::clean(gap),
         justify,
         reversed,

@@ -2,54 +2,36 @@
 ghost use Rattle.std.specs.Prelude.{◌≡◌, [], ◌∷◌};
 ghost use Rattle.checks.specs.Domain.{checked};
 ghost use Rattle.checks.specs.Marks.{least_of};
-ghost use Rattle.checks.specs.declared.Verdict.TheVariants.{Passed};
-ghost use Rattle.place_main.specs.MainAxis.{line_lists};
+ghost use Rattle.place_main.specs.Lists.{lists_of};
+ghost use Rattle.place_main.specs.MainAxis.{count};
 ghost use Rattle.place_main.specs.Parts.{MainOneLength};
 ghost use Rattle.checks.specs.Shapes.{shape_of};
-ghost use Rattle.place_main.specs.MainCall.{main_container_numbers, main_input, main_result, main_call};
+ghost use Rattle.place_main.specs.MainCall.{main_container_numbers, main_input, lengths, main_result, main_call};
 
-use crate::main_axis;
-use checks::shapes::{has_room, is_alike};
-use checks::{Answer, Kind, Mark, Verdict, judge, least};
+use crate::{LineLists, main_axis};
+use checks::{Done, Kind, Mark, Refusal, judge, least};
 use checks_list::whole::{mark_beside, mark_list};
 use checks_number::{mark_code, mark_float};
-use grid::whole::larger;
 
 // Checks 1 and 2, from the lengths of the lists and of the lent ones.
 fn check_main_shape(
-    n: usize,
-    start: usize,
-    end: usize,
-    auto_start: usize,
-    auto_end: usize,
+    items: LineLists,
     offsets: usize,
     used_start: usize,
     used_end: usize,
-) -> Verdict
-    ensures { result ≡ shape_of (n ∷ start ∷ end ∷ auto_start ∷ auto_end ∷ [])
-        (offsets ∷ used_start ∷ used_end ∷ []) n }
+) -> Result<(), Refusal>
+    ensures { result ≡ shape_of (lengths (lists_of items.entry)) (offsets ∷ used_start ∷ used_end ∷ [])
+        (count (lists_of items.entry)) }
 {
-    let longest = larger(
-        n,
-        larger(start, larger(end, larger(auto_start, larger(auto_end, 0)))),
-    );
-    let even = is_alike(
-        n,
-        n,
-        is_alike(
-            start,
-            n,
-            is_alike(end, n, is_alike(auto_start, n, is_alike(auto_end, n, true))),
-        ),
-    );
-    checks::check_shape(
-        longest,
-        has_room(
-            n,
-            offsets,
-            has_room(n, used_start, has_room(n, used_end, even)),
-        ),
-    )
+    let n = items.targets.len();
+    let codes = items.auto_start.len().max(items.auto_end.len());
+    let sides = items.start.len().max(items.end.len().max(codes));
+    let even = items.start.len() == n
+        && items.end.len() == n
+        && items.auto_start.len() == n
+        && items.auto_end.len() == n;
+    let room = n <= offsets && n <= used_start && n <= used_end;
+    checks::check_shape(n.max(sides), room && even)
 }
 
 fn mark_main_container(inner: f32, gap: f32, justify: u32, reversed: u32) -> Mark
@@ -64,84 +46,54 @@ fn mark_main_container(inner: f32, gap: f32, justify: u32, reversed: u32) -> Mar
 }
 
 // Checks 3 to 5.
-fn check_main_numbers<'a>(
+fn check_main_numbers(
     inner: f32,
     gap: f32,
     justify: u32,
     reversed: u32,
-    targets: &'a [f32],
-    start: &'a [f32],
-    end: &'a [f32],
-    auto_start: &'a [u32],
-    auto_end: &'a [u32],
-) -> Verdict
-    requires { MainOneLength (line_lists targets.now start.now end.now auto_start.now auto_end.now) }
-    ensures { result ≡ checked (main_input inner gap justify reversed
-        (line_lists targets.now start.now end.now auto_start.now
-        auto_end.now)) Passed }
+    items: LineLists,
+) -> Result<(), Refusal>
+    requires { MainOneLength (lists_of items) }
+    ensures { result ≡ checked (main_input inner gap justify reversed (lists_of items.entry)) (Ok tt) }
 {
     let container = mark_main_container(inner, gap, justify, reversed);
     let margins = least(
-        mark_beside(Kind::Margin, start, auto_start, 0),
-        mark_beside(Kind::Margin, end, auto_end, 0),
+        mark_beside(Kind::Margin, items.start, items.auto_start, 0),
+        mark_beside(Kind::Margin, items.end, items.auto_end, 0),
     );
-    judge(least(container, least(mark_list(Kind::Worked, targets), margins)))
+    judge(least(
+        container,
+        least(mark_list(Kind::Worked, items.targets), margins),
+    ))
 }
 
-pub fn place_main<'a>(
+pub fn place_main(
     inner: f32,
     gap: f32,
     justify: u32,
     reversed: u32,
-    targets: &'a [f32],
-    start: &'a [f32],
-    end: &'a [f32],
-    auto_start: &'a [u32],
-    auto_end: &'a [u32],
+    items: LineLists,
     offsets: &mut [f32],
     used_start: &mut [f32],
     used_end: &mut [f32],
-) -> Answer
+) -> Result<Done, Refusal>
     ensures { main_result result offsets.new used_start.new used_end.new
-        ≡ main_call inner gap justify reversed (line_lists targets.now start.now end.now
-        auto_start.now auto_end.now) offsets.old used_start.old
-        used_end.old }
+        ≡ main_call inner gap justify reversed (lists_of items.entry) offsets.old used_start.old used_end.old }
 {
-    let shape = check_main_shape(
-        targets.len(),
-        start.len(),
-        end.len(),
-        auto_start.len(),
-        auto_end.len(),
-        offsets.len(),
-        used_start.len(),
-        used_end.len(),
-    );
-    let Verdict::Passed = shape else {
-        return checks::answer_of(shape, 0, 0);
-    };
-    let numbers = check_main_numbers(
-        inner, gap, justify, reversed, targets, start, end, auto_start, auto_end,
-    );
-    let Verdict::Passed = numbers else {
-        return checks::answer_of(numbers, 0, 0);
-    };
+    check_main_shape(items, offsets.len(), used_start.len(), used_end.len())?;
+    check_main_numbers(inner, gap, justify, reversed, items)?;
     main_axis::distribute_remaining_free_space(
         inner,
         gap,
         keywords::content_of(justify),
         reversed != 0,
-        targets,
-        start,
-        end,
-        auto_start,
-        auto_end,
+        items,
         offsets,
         used_start,
         used_end,
     );
-    Answer::Done {
+    Ok(Done {
         lines: 0,
         rounds: 0,
-    }
+    })
 }

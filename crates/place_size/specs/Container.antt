@@ -1,8 +1,8 @@
 -- Document 01, "Cross axis": the container's inner cross size, and the bounds on it. Assumes nothing.
 use Rattle.std.specs.Prelude.{Float}
 use Rattle.grid.specs.Grid.{cleaned}
-use Rattle.keywords.specs.declared.Bound.{Bound}
-use Rattle.keywords.specs.declared.Bound.TheVariants.{Absent, Given}
+use Rattle.std.specs.declared.option.Option.{Option}
+use Rattle.std.specs.declared.option.Option.TheVariants.{None, Some}
 use Rattle.keywords.specs.Space.{raised_to, lowered_to, read_bound}
 use Rattle.place_size.specs.declared.container.Cross.{Cross}
 
@@ -20,15 +20,15 @@ read_cross c = record {
 unfoldable pub bounded : Cross → Float → Float
 bounded c x = raised_to c.minimum (lowered_to c.maximum x)
 
-abbrev pub bounded_by : Cross → Bound → Bound
-bounded_by c Absent = Absent
-bounded_by c (Given x) = Given (bounded c x)
+abbrev pub bounded_by : Cross → Option Float → Option Float
+bounded_by c None = None
+bounded_by c (Some x) = Some (bounded c x)
 
 -- "a given inner size, single-line or not, is clamped so first"
-abbrev pub inner_size : Cross → Bound
+abbrev pub inner_size : Cross → Option Float
 inner_size c = bounded_by c c.inner
 
 -- the inner size where it is definite, else x clamped
-abbrev pub or_bounded : Cross → Bound → Float → Float
-or_bounded c Absent x = bounded c x
-or_bounded c (Given inner) x = inner
+abbrev pub or_bounded : Cross → Option Float → Float → Float
+or_bounded c None x = bounded c x
+or_bounded c (Some inner) x = inner

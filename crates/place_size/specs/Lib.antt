@@ -1,3 +1,4 @@
 pub mod Container
 pub mod CrossSize
 pub mod Parts
+pub mod Lists

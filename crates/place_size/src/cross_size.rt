@@ -1,11 +1,12 @@
 // The cross size of a line from its items (CSS-FLEX 9.4, step 8).
-ghost use Rattle.std.specs.Prelude.{◌≡◌, ◌<◌, length};
-ghost use Rattle.place_size.specs.CrossSize.{cross_clamp, or_nought, margins, outer_size, read_item, cross_lists};
+ghost use Rattle.std.specs.Prelude.{◌≡◌, ◌<◌};
+ghost use Rattle.place_size.specs.CrossSize.{cross_clamp, or_nought, margins, outer_size, read_item, count};
 ghost use Rattle.place_size.specs.CrossSize.{cross_item_at, largest_outer, line_cross_size, cross_line_size};
+ghost use Rattle.place_size.specs.Lists.{lists_of};
 ghost use Rattle.place_size.specs.Parts.{CrossOneLength};
 
-use crate::container;
 use crate::container::Cross;
+use crate::{CrossLists, container};
 use grid::floats::{lower, raise};
 
 // What an item's cross size and margins turn on. `capped` says that there is a maximum; `edges` is padding plus border.
@@ -27,10 +28,8 @@ pub struct CrossItem {
 pub fn clamp_item(it: CrossItem, x: f32) -> f32
     ensures { result ≡ cross_clamp it x }
 {
-    if it.capped {
-        return raise(raise(lower(x, it.maximum), it.minimum), it.edges);
-    }
-    raise(raise(x, it.minimum), it.edges)
+    let lowered = if it.capped { lower(x, it.maximum) } else { x };
+    raise(raise(lowered, it.minimum), it.edges)
 }
 
 fn or_nought(auto: bool, x: f32) -> f32
@@ -73,69 +72,33 @@ fn read_item(it: CrossItem) -> CrossItem
 }
 
 // Item i of the lists: no entry point, since they are of one length, and longer than i.
-pub fn item_at<'a>(
-    measured: &'a [f32],
-    minimum: &'a [f32],
-    maximum: &'a [f32],
-    capped: &'a [u32],
-    edges: &'a [f32],
-    start: &'a [f32],
-    end: &'a [f32],
-    auto_start: &'a [u32],
-    auto_end: &'a [u32],
-    i: usize,
-) -> CrossItem
-    requires cross_one_length { CrossOneLength (cross_lists measured.now minimum.now maximum.now capped.now edges.now
-        start.now
-        end.now auto_start.now auto_end.now) }
-    requires i_in_bounds { i < length measured.now }
-    ensures { result ≡ cross_item_at (cross_lists measured.now minimum.now maximum.now
-        capped.now edges.now start.now end.now auto_start.now
-        auto_end.now) i }
+pub fn item_at(items: CrossLists, i: usize) -> CrossItem
+    requires cross_one_length { CrossOneLength (lists_of items) }
+    requires i_in_bounds { i < count (lists_of items) }
+    ensures { result ≡ cross_item_at (lists_of items.entry) i }
 {
-    let has_maximum = capped[i];
-    let start_is_auto = auto_start[i];
-    let end_is_auto = auto_end[i];
     read_item(CrossItem {
-        measured: measured[i],
-        minimum: minimum[i],
-        maximum: maximum[i],
-        capped: has_maximum != 0,
-        edges: edges[i],
-        start: start[i],
-        end: end[i],
-        auto_start: start_is_auto != 0,
-        auto_end: end_is_auto != 0,
+        measured: items.measured[i],
+        minimum: items.minimum[i],
+        maximum: items.maximum[i],
+        capped: items.capped[i] != 0,
+        edges: items.edges[i],
+        start: items.start[i],
+        end: items.end[i],
+        auto_start: items.auto_start[i] != 0,
+        auto_end: items.auto_end[i] != 0,
     })
 }
 
 // The largest outer cross size of a line's items, and zero.
-fn largest_outer<'a>(
-    measured: &'a [f32],
-    minimum: &'a [f32],
-    maximum: &'a [f32],
-    capped: &'a [u32],
-    edges: &'a [f32],
-    start: &'a [f32],
-    end: &'a [f32],
-    auto_start: &'a [u32],
-    auto_end: &'a [u32],
-) -> f32
-    requires { CrossOneLength (cross_lists measured.now minimum.now maximum.now capped.now edges.now
-        start.now
-        end.now auto_start.now auto_end.now) }
-    ensures { result ≡ largest_outer (cross_lists measured.now minimum.now maximum.now
-        capped.now edges.now start.now end.now auto_start.now
-        auto_end.now) }
+#[tactic(auto, using(crate::proofs::Largest::largest_turn), unfolding(crate::specs::CrossSize::largest))]
+fn largest_outer(items: CrossLists) -> f32
+    requires { CrossOneLength (lists_of items) }
+    ensures { result ≡ largest_outer (lists_of items.entry) }
 {
     let mut most = 0.0;
-    let mut i = 0;
-    while i < measured.len() {
-        let it = item_at(
-            measured, minimum, maximum, capped, edges, start, end, auto_start, auto_end, i,
-        );
-        most = raise(most, outer_cross_size(it));
-        i += 1;
+    for i in 0..items.measured.len() {
+        most = raise(most, outer_cross_size(item_at(items, i)));
     }
     most
 }
@@ -145,36 +108,18 @@ fn largest_outer<'a>(
 fn line_size(c: Cross, x: f32) -> f32
     ensures { result ≡ line_cross_size c x }
 {
-    let wrap = c.wrap;
-    if keywords::is_single_line(wrap) {
-        return grid::clean(container::inner_or(c, x));
-    }
-    grid::clean(x)
+    let size = if keywords::is_single_line(c.wrap) {
+        container::inner_or(c, x)
+    } else {
+        x
+    };
+    grid::clean(size)
 }
 
 // CSS-FLEX 9.4 of one accepted line: no entry point, since the lists are of one length.
-pub fn calculate_cross_size<'a>(
-    c: Cross,
-    measured: &'a [f32],
-    minimum: &'a [f32],
-    maximum: &'a [f32],
-    capped: &'a [u32],
-    edges: &'a [f32],
-    start: &'a [f32],
-    end: &'a [f32],
-    auto_start: &'a [u32],
-    auto_end: &'a [u32],
-) -> f32
-    requires { CrossOneLength (cross_lists measured.now minimum.now maximum.now capped.now edges.now
-        start.now
-        end.now auto_start.now auto_end.now) }
-    ensures { result ≡ cross_line_size c (cross_lists measured.now minimum.now
-        maximum.now
-        capped.now edges.now start.now end.now auto_start.now
-        auto_end.now) }
+pub fn calculate_cross_size(c: Cross, items: CrossLists) -> f32
+    requires { CrossOneLength (lists_of items) }
+    ensures { result ≡ cross_line_size c (lists_of items.entry) }
 {
-    let most = largest_outer(
-        measured, minimum, maximum, capped, edges, start, end, auto_start, auto_end,
-    );
-    line_size(container::read_cross(c), most)
+    line_size(container::read_cross(c), largest_outer(items))
 }
