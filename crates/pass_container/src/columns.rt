@@ -3,24 +3,13 @@ ghost use Rattle.std.specs.Prelude.{◌≡◌, ◌+◌, length};
 ghost use Rattle.pass_container.specs.Columns.{column};
 ghost use Rattle.pass_container.specs.Stages.{Inside, ColumnStored, FourStored};
 
-// List k of the items' numbers. No entry point: it is there.
-pub fn column<'a>(xs: &'a [f32], n: usize, k: usize) -> &'a [f32]
+// List k. No entry point: it is there.
+pub fn column<T>(xs: &[T], n: usize, k: usize) -> &[T]
     requires { Inside n k xs.now }
     ensures { result.now ≡ column n k xs.now }
 {
     let from = k * n;
-    let to = from + n;
-    &xs[from..to]
-}
-
-// The same of their codes. No entry point.
-pub fn code_column<'a>(xs: &'a [u32], n: usize, k: usize) -> &'a [u32]
-    requires { Inside n k xs.now }
-    ensures { result.now ≡ column n k xs.now }
-{
-    let from = k * n;
-    let to = from + n;
-    &xs[from..to]
+    &xs[from..from + n]
 }
 
 // Writes list k of a lent list. No entry point: it is there.
@@ -29,8 +18,7 @@ pub fn store_column(xs: &[f32], n: usize, k: usize, cells: &mut [f32])
     ensures { ColumnStored n k xs.now cells.old cells.new }
 {
     let from = k * n;
-    let to = from + n;
-    lists::copy(xs, &mut cells[from..to]);
+    cells[from..from + n].copy_from_slice(xs);
 }
 
 // Writes four lists, k and those after it. No entry point: they are there.

@@ -1,7 +1,15 @@
 // The container of the whole pass, one struct by value, and the items' numbers in lists of n cells one after another.
 #![tactic(auto)]
 
+ghost use Rattle.std.specs.Prelude.{◌≡◌};
+ghost use Rattle.pass_container.specs.Container.{cross_numbers_of};
+
+use place_checks::numbers::CrossNumbers;
+
 pub mod columns;
+pub mod items;
+
+pub use items::Items;
 
 // The container's gaps, sizes, limit and keywords travel as one value, to every stage. The codes are those of the
 // header.
@@ -29,4 +37,22 @@ pub struct Container {
     pub maximum_cross: f32,
     pub has_maximum_cross: u32,
     pub gap_cross: f32,
+}
+
+// The cross axis of a container, wrap mode and all.
+impl From<Container> for CrossNumbers {
+    ghost from_gives = { λ c cross. cross ≡ cross_numbers_of c };
+
+    fn from(c: Container) -> CrossNumbers {
+        CrossNumbers {
+            inner: c.inner_cross,
+            has_inner: c.has_inner_cross,
+            minimum: c.minimum_cross,
+            has_minimum: c.has_minimum_cross,
+            maximum: c.maximum_cross,
+            has_maximum: c.has_maximum_cross,
+            gap: c.gap_cross,
+            wrap: c.wrap,
+        }
+    }
 }

@@ -3,4 +3,4 @@ use Rattle.pass_container.proofs.ColumnLaws.{part-column}
 use Rattle.pass_container.proofs.columns.column.Goals as goal
 
 pub returns : goal.returns
-returns c = part-column c.args.n c.args.k c.args.xs.now
+returns g c = part-column c.args.n c.args.k c.args.xs.now
