@@ -3,7 +3,6 @@ use mathlib.Core.Path.{◌≡◌, refl, sym, ap, ap₂, ◌∙◌, subst}
 use mathlib.Core.Bool.{Bool, true, ◌&&◌}
 use mathlib.Core.List.{List}
 use Prim.Native.Nat.{ℕ, zero, suc, ◌+◌, ◌*◌, ◌≤◌, ◌<◌, zero-le}
-use native.Mathlib.Nat.{le_antisymm}
 use native.Mathlib.Numerals.{add-one}
 use native.Mathlib.Omega.{arith}
 use lib.Dec.{eqb, leb}
@@ -37,11 +36,6 @@ counting_next counts ok sum j c ok' h e l q p = record {
   sum_is = ap₂ (λ (a b : ℕ). a + b) p.sum_is e ∙ sym (sum_more (λ i. get_or counts i 0) j);
   small = omega (arith, p.small);
 }
-
-pub counting_all : (counts : List ℕ) (ok : Bool) (sum j n : ℕ) → length counts ≤ j → Counting counts ok sum j → (eqb sum n && ok) ≡ divides counts n
-counting_all counts ok sum j n h p =
-    ap₂ (λ (k : ℕ) (b : Bool). eqb k n && b) p.sum_is p.ok_is
-    ∙ ap (λ (i : ℕ). eqb (line_start counts i) n && positive counts i) (le_antisymm p.inside h)
 
 -- ---- counts that divide the items
 

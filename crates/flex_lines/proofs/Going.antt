@@ -15,7 +15,7 @@ use Rattle.lists.proofs.UpTo.{sum-none, sum_more, sum_ext, sum_past}
 use Rattle.flex.specs.declared.Item.{Item}
 use Rattle.flex.specs.Flex.{outer_sum, Flexed, targets as targetsOf}
 use Rattle.flex.specs.Accepted.{Accepted}
-use Rattle.flex_table.specs.Table.{item_in, items_in, Wide}
+use Rattle.flex_table.specs.Table.{item_in, items_in}
 use Rattle.lists.specs.ByLine.{line_start, part}
 use Rattle.flex_lines.specs.Lines.{line_items, Beyond, FlexedLines}
 use Rattle.flex_lines.specs.Parts.{LinesDivided, Lined, Ahead, Flowed}
@@ -23,7 +23,7 @@ use Rattle.lists.proofs.ByLine.{other_cells, own_cells, later}
 use Rattle.lists.proofs.Filling.{filled_long, filled_before, filled_inside, filled_past}
 use Rattle.lists.proofs.Each.{length-each, each_ext}
 use Rattle.flex_table.proofs.Each.{outer_snoc}
-use Rattle.flex_table.proofs.Columns.{every-each}
+use Rattle.flex_table.proofs.Items.{every-each, part_items}
 
 -- ---- the ranges
 
@@ -33,7 +33,7 @@ unfolding sum_up_to
 lines_few f zero h = zero-le
 lines_few f (suc n) h = omega (arith, lines_few f n (λ j l. h j (omega arith)), h n (omega arith))
 
-pub counts_few : (inner gap : Float) (t : List Float) (n : ℕ) (counts : List ℕ) (targets : List Float) (free : List ℤ) (rounds : List ℕ) → LinesDivided inner gap t n counts targets free rounds → length counts ≤ n
+pub counts_few : (inner gap : Float) (t : List Item) (n : ℕ) (counts : List ℕ) (targets : List Float) (free : List ℤ) (rounds : List ℕ) → LinesDivided inner gap t n counts targets free rounds → length counts ≤ n
 counts_few inner gap t n counts targets free rounds pre = subst (λ (k : ℕ). length counts ≤ k) pre.whole (lines_few (λ i. get_or counts i 0) (length counts) pre.positive)
 
 -- ---- a line's items are accepted
@@ -54,7 +54,7 @@ outer_line gap g a c n h =
     let q = outer_parts gap g a c in
     subst (λ (k : ℕ). outer_sum gap (each c (λ i. g (a + i))) ≤ outer_sum gap (each k g)) e (omega (arith, p, q))
 
-module _ (inner gap : Float) (t : List Float) (n : ℕ) (counts : List ℕ) (targets : List Float) (free : List ℤ) (rounds : List ℕ) (pre : Lined inner gap t n counts targets free rounds) where
+module _ (inner gap : Float) (t : List Item) (n : ℕ) (counts : List ℕ) (targets : List Float) (free : List ℤ) (rounds : List ℕ) (pre : Lined inner gap t n counts targets free rounds) where
   pub accepted_line : (a c : ℕ) → a + c ≤ n → Accepted inner gap (items_in t a c)
   accepted_line a c h = record {
     inner_is = pre.divided.inner_is;
@@ -150,29 +150,36 @@ module _ (inner gap : Float) (item : ℕ → Item) (counts : List ℕ) (targets�
     pub going_all : length counts ≤ line → Flowed inner gap item counts (length counts) sum targets₀ free₀ rounds₀ targets free rounds
     going_all h = subst (λ (k : ℕ). Flowed inner gap item counts k sum targets₀ free₀ rounds₀ targets free rounds) (le_antisymm g.inside h) g.flowed
 
--- what a turn may use: the line's range lies inside every list
-pub record Turn (t : List Float) (start c line sum : ℕ) (targets : List Float) (free : List ℤ) (rounds : List ℕ) : Type 0 where
-  pub inside : Wide t (start + c)
+-- what a turn may use: the line's range lies inside every list, and its items are accepted
+pub record Turn (inner gap : Float) (t : List Item) (start c line sum : ℕ) (targets : List Float) (free : List ℤ) (rounds : List ℕ) : Type 0 where
+  pub inside : start + c ≤ length t
+  pub few : start + c ≤ 1024
+  pub part_is : take (start + c - start) (drop start t) ≡ items_in t start c
+  pub part_long : length (take (start + c - start) (drop start t)) ≡ c
+  pub accepted : Accepted inner gap (take (start + c - start) (drop start t))
   pub room : start + c ≤ length targets
   pub free_room : line < length free
   pub rounds_room : line < length rounds
-  pub line_few : line < 1024
   pub less : sum ≤ start
 
-module _ (inner gap : Float) (t : List Float) (n : ℕ) (counts : List ℕ) (targets₀ : List Float) (free₀ : List ℤ) (rounds₀ : List ℕ) (pre : Lined inner gap t n counts targets₀ free₀ rounds₀) where
+module _ (inner gap : Float) (t : List Item) (n : ℕ) (counts : List ℕ) (targets₀ : List Float) (free₀ : List ℤ) (rounds₀ : List ℕ) (pre : Lined inner gap t n counts targets₀ free₀ rounds₀) where
   module _ (targets : List Float) (free : List ℤ) (rounds : List ℕ) (sum start line : ℕ) (g : Going inner gap (item_in t) counts targets₀ free₀ rounds₀ targets free rounds sum start line) (h : line < length counts) where
-    pub line_inside : start + get_or counts line 0 ≤ n
-    line_inside = subst (λ (k : ℕ). k + get_or counts line 0 ≤ n) (sym g.here) (line_ends inner gap t n counts targets₀ free₀ rounds₀ pre line h)
-
-    pub turn_of : Turn t start (get_or counts line 0) line sum targets free rounds
+    pub turn_of : Turn inner gap t start (get_or counts line 0) line sum targets free rounds
     turn_of =
+        let c = get_or counts line 0 in
         let l = lines_within inner gap t n counts targets₀ free₀ rounds₀ pre in
+        let ends : start + c ≤ n = subst (λ k. k + c ≤ n) (sym g.here) (line_ends inner gap t n counts targets₀ free₀ rounds₀ pre line h) in
+        let k : start + c - start ≡ c = omega arith in
+        let e = ap (λ i. take i (drop start t)) k ∙ part_items t start c (omega (arith, pre.divided.wide.1)) in
         record {
-          inside = (omega (arith, line_inside, pre.divided.wide.0), omega (arith, line_inside, pre.divided.wide.1));
-          room = omega (arith, line_inside, pre.divided.room, g.flowed.long);
+          inside = omega (arith, pre.divided.wide.1);
+          few = omega (arith, pre.divided.wide.0);
+          part_is = e;
+          part_long = ap length e ∙ length-each c (λ i. item_in t (start + i));
+          accepted = subst (Accepted inner gap) (sym e) (accepted_line inner gap t n counts targets₀ free₀ rounds₀ pre start c ends);
+          room = omega (arith, pre.divided.room, g.flowed.long);
           free_room = omega (arith, l, pre.divided.free_room, g.flowed.free_past.long);
           rounds_room = omega (arith, l, pre.divided.rounds_room, g.flowed.rounds_past.long);
-          line_few = omega (arith, l, pre.divided.wide.0);
           less = g.less;
         }
 

@@ -10,7 +10,7 @@ use Rattle.lists.specs.ByLine.{line_start, part}
 use Rattle.flex_lines.specs.Lines.{line_items}
 
 -- what checks 1 to 5 show: the lines have the n items of the table, none of them is empty, and there is room
-pub record LinesDivided (inner gap : Float) (t : List Float) (n : ℕ) (counts : List ℕ) (targets : List Float)
+pub record LinesDivided (inner gap : Float) (t : List Item) (n : ℕ) (counts : List ℕ) (targets : List Float)
     (free : List ℤ) (rounds : List ℕ) : Type 0 where
   pub inner_is : Length inner
   pub gap_is : Length gap
@@ -23,7 +23,7 @@ pub record LinesDivided (inner gap : Float) (t : List Float) (n : ℕ) (counts :
   pub rounds_room : n ≤ length rounds
 
 -- and check 6
-pub record Lined (inner gap : Float) (t : List Float) (n : ℕ) (counts : List ℕ) (targets : List Float) (free : List ℤ)
+pub record Lined (inner gap : Float) (t : List Item) (n : ℕ) (counts : List ℕ) (targets : List Float) (free : List ℤ)
     (rounds : List ℕ) : Type 0 where
   pub divided : LinesDivided inner gap t n counts targets free rounds
   pub within : outer_sum gap (items_in t 0 n) ≤ 16777216

@@ -2,22 +2,15 @@
 // free space and rounds are listed by line. For calls that check what they take: none is an entry point.
 #![tactic(auto)]
 
-ghost use Rattle.std.specs.Prelude.{◌≡◌, ◌≤◌, ◌<◌, length};
+ghost use Rattle.std.specs.Prelude.{◌≡◌, ◌≤◌, length};
 ghost use Rattle.flex_table.specs.Table.{item_in};
 ghost use Rattle.lists.specs.ByLine.{divides};
 ghost use Rattle.flex_lines.specs.Lines.{FlexedLines};
 ghost use Rattle.flex_lines.specs.Parts.{Lined, Flowed};
 
-use checks::shapes::{has_room, is_alike};
+use flex::Item;
 use flex_rounds::line::flex_items;
-use lists::{clear_i32, clear_u32, put_i32};
-
-// A count is small beside a usize.
-fn wide(c: u32) -> usize
-    ensures { (result ≡ c) × (result ≤ 4294967295) }
-{
-    c as usize
-}
+use lists::clear;
 
 // Whether the counts are positive and sum to n. No entry point.
 pub fn is_division(counts: &[u32], n: usize) -> bool
@@ -26,20 +19,16 @@ pub fn is_division(counts: &[u32], n: usize) -> bool
 {
     let mut positive = true;
     let mut sum = 0;
-    let mut j = 0;
-    while j < counts.len() {
-        let c = wide(counts[j]);
-        positive = has_room(1, c, positive);
-        sum += c;
-        j += 1;
+    for &count in counts {
+        positive = positive && 0 < count;
+        sum += count as usize;
     }
-    is_alike(sum, n, positive)
+    sum == n && positive
 }
 
 // Line after line, by the counts; answers the sum of the rounds.
 fn flex_each<'a>(
-    table: &'a [f32],
-    n: usize,
+    items: &'a [Item],
     inner: f32,
     gap: f32,
     counts: &'a [u32],
@@ -47,32 +36,27 @@ fn flex_each<'a>(
     free: &mut [i32],
     rounds: &mut [u32],
 ) -> u32
-    requires { Lined inner gap table.now n counts.now targets.old free.old rounds.old }
-    ensures { Flowed inner gap (item_in table.now) counts.now (length counts.now)
+    requires { Lined inner gap items.now (length items.now) counts.now targets.old free.old rounds.old }
+    ensures { Flowed inner gap (item_in items.now) counts.now (length counts.now)
         result targets.old free.old rounds.old targets.new free.new
         rounds.new }
 {
     let mut sum = 0;
     let mut start = 0;
-    let mut line = 0;
-    while line < counts.len() {
-        let count = counts[line] as usize;
-        let end = start + count;
-        let f = flex_items(table, start, count, inner, gap, &mut targets[start..end]);
-        let x = f.free;
-        put_i32(free, line, x.0);
-        rounds[line] = f.rounds;
-        sum += f.rounds;
+    for (line, &count) in counts.iter().enumerate() {
+        let end = start + count as usize;
+        let flexed = flex_items(&items[start..end], inner, gap, &mut targets[start..end]);
+        free[line] = flexed.free.0;
+        rounds[line] = flexed.rounds;
+        sum += flexed.rounds;
         start = end;
-        line += 1;
     }
     sum
 }
 
 // All lines, and 0 in the cells past the last. What it asks is what checks 1 to 6 show. No entry point.
 pub fn flex_all<'a>(
-    table: &'a [f32],
-    n: usize,
+    items: &'a [Item],
     inner: f32,
     gap: f32,
     counts: &'a [u32],
@@ -80,14 +64,14 @@ pub fn flex_all<'a>(
     free: &mut [i32],
     rounds: &mut [u32],
 ) -> u32
-    requires { Lined inner gap table.now n counts.now targets.old free.old rounds.old }
-    ensures { FlexedLines inner gap (item_in table.now) n counts.now result
+    requires { Lined inner gap items.now (length items.now) counts.now targets.old free.old rounds.old }
+    ensures { FlexedLines inner gap (item_in items.now) (length items.now) counts.now result
         targets.old free.old rounds.old targets.new free.new
         rounds.new }
 {
-    let sum = flex_each(table, n, inner, gap, counts, targets, free, rounds);
+    let sum = flex_each(items, inner, gap, counts, targets, free, rounds);
     // "Cells past the last line get 0."
-    clear_i32(free, counts.len(), n);
-    clear_u32(rounds, counts.len(), n);
+    clear(free, counts.len(), items.len(), 0);
+    clear(rounds, counts.len(), items.len(), 0);
     sum
 }

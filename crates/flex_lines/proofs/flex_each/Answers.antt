@@ -1,109 +1,70 @@
 -- Line after line: those before this one are flexed. Assumes nothing.
-use mathlib.Core.Path.{refl, sym, ap, ◌∙◌, subst}
-use Prim.Native.Nat.{◌+◌, ◌-◌}
+use mathlib.Core.Path.{refl, sym, ◌∙◌, subst}
+use Prim.Native.Nat.{◌+◌, ◌-◌, ◌<◌}
 use native.Mathlib.Omega.{arith}
-use mathlib.Core.List.{List}
-use lib.ListN.{get_or, set}
-use lib.IntN.{ℤ}
-use borrow.Rule.Slice.PartMut.{put_mid, mid_len}
-use Rattle.flex_table.specs.Table.{item_in, items_in}
-use Rattle.lists.proofs.Each.{length-each}
+use lib.ListN.{length, get_or, set}
+use borrow.Rule.Slice.PartMut.{mid_of, put_mid, mid_len}
+use Rattle.flex_table.specs.Table.{item_in}
+use Rattle.flex.specs.Flex.{Flexed}
 use Rattle.flex.proofs.Units.{free_bits}
-use Rattle.flex_lines.proofs.Going.{Going, going_none, going_next, accepted_line, line_inside, turn_of}
+use Rattle.flex_lines.proofs.Going.{Going, Turn, going_none, going_next, turn_of}
 use Rattle.flex_lines.proofs.flex_each.Goals as goal
+use Rattle.flex_lines.proofs.flex_each.Goals.{In-loop-line}
+
+turn : (c : In-loop-line) → c.loop-line.line < length c.args.counts.now → let a = c.args in let l = c.loop-line in Turn a.inner a.gap a.items.now l.start (get_or a.counts.now l.line 0) l.line l.sum l.targets l.free l.rounds
+turn c h =
+    let a = c.args in
+    let l = c.loop-line in
+    turn_of a.inner a.gap a.items.now (length a.items.now) a.counts.now a.targets.now a.free.now a.rounds.now c.requires
+    l.targets l.free l.rounds l.sum l.start l.line l.invariant h
 
 pub loop-line-init : goal.loop-line-init
 loop-line-init c =
     let a = c.args in
-    going_none a.inner a.gap (item_in a.table.now) a.counts.now a.targets.now a.free.now a.rounds.now
+    going_none a.inner a.gap (item_in a.items.now) a.counts.now a.targets.now a.free.now a.rounds.now
 
 pub overflow_add-end : goal.overflow_add-end
-overflow_add-end c =
-    let a = c.args in
-    let l = c.loop-line in
-    let t = turn_of a.inner a.gap a.table.now a.n a.counts.now a.targets.now a.free.now a.rounds.now c.requires
-    l.targets l.free l.rounds l.sum l.start l.line l.invariant c.loop-line-test.true in
-    omega (arith, t.inside.0)
+overflow_add-end c = omega (arith, (turn (goal.at.overflow_add-end c).In-loop-line c.loop-line-test.true).few)
 
-pub offset_bounds-targets-start : goal.offset_bounds-targets-start
-offset_bounds-targets-start c =
-    let a = c.args in
-    let l = c.loop-line in
-    let t = turn_of a.inner a.gap a.table.now a.n a.counts.now a.targets.now a.free.now a.rounds.now c.requires
-    l.targets l.free l.rounds l.sum l.start l.line l.invariant c.loop-line-test.true in
-    omega (arith, t.inside.0)
+pub offset_bounds-items-start : goal.offset_bounds-items-start
+offset_bounds-items-start c = omega (arith, (turn (goal.at.offset_bounds-items-start c).In-loop-line c.loop-line-test.true).few)
 
 pub slice_bounds-flex_items-end : goal.slice_bounds-flex_items-end
-slice_bounds-flex_items-end c =
-    let a = c.args in
-    let l = c.loop-line in
-    let t = turn_of a.inner a.gap a.table.now a.n a.counts.now a.targets.now a.free.now a.rounds.now c.requires
-    l.targets l.free l.rounds l.sum l.start l.line l.invariant c.loop-line-test.true in
-    t.room
+slice_bounds-flex_items-end c = (turn (goal.at.slice_bounds-flex_items-end c).In-loop-line c.loop-line-test.true).inside
 
-pub flex_items-f-requires : goal.flex_items-f-requires
-flex_items-f-requires c =
-    let a = c.args in
+pub flex_items-flexed-requires : goal.flex_items-flexed-requires
+flex_items-flexed-requires c =
     let l = c.loop-line in
-    let t = turn_of a.inner a.gap a.table.now a.n a.counts.now a.targets.now a.free.now a.rounds.now c.requires
-    l.targets l.free l.rounds l.sum l.start l.line l.invariant c.loop-line-test.true in
-    let k = get_or a.counts.now l.line 0 in (
-      t.inside,
-      omega (arith, mid_len l.start (l.start + k) l.targets t.room),
-      accepted_line a.inner a.gap a.table.now a.n a.counts.now a.targets.now a.free.now a.rounds.now c.requires l.start
-          k (line_inside a.inner a.gap a.table.now a.n a.counts.now a.targets.now a.free.now a.rounds.now c.requires
-          l.targets l.free l.rounds l.sum l.start l.line l.invariant c.loop-line-test.true),
+    let t = turn (goal.at.flex_items-flexed-requires c).In-loop-line c.loop-line-test.true in
+    let e = l.start + get_or c.args.counts.now l.line 0 in (
+      omega (arith, t.part_long, t.few),
+      omega (arith, t.part_long, mid_len l.start e l.targets t.room),
+      t.accepted,
     )
 
-pub put_i32-requires : goal.put_i32-requires
-put_i32-requires c =
-    let a = c.args in
-    let l = c.loop-line in
-    let t = turn_of a.inner a.gap a.table.now a.n a.counts.now a.targets.now a.free.now a.rounds.now c.requires
-    l.targets l.free l.rounds l.sum l.start l.line l.invariant c.loop-line-test.true in
-    t.free_room
+pub bounds-free-line : goal.bounds-free-line
+bounds-free-line c = (turn (goal.at.bounds-free-line c).In-loop-line c.loop-line-test.true).free_room
 
 pub bounds-rounds-line : goal.bounds-rounds-line
-bounds-rounds-line c =
-    let a = c.args in
-    let l = c.loop-line in
-    let t = turn_of a.inner a.gap a.table.now a.n a.counts.now a.targets.now a.free.now a.rounds.now c.requires
-    l.targets l.free l.rounds l.sum l.start l.line l.invariant c.loop-line-test.true in
-    t.rounds_room
+bounds-rounds-line c = (turn (goal.at.bounds-rounds-line c).In-loop-line c.loop-line-test.true).rounds_room
 
 pub overflow_add-sum : goal.overflow_add-sum
 overflow_add-sum c =
-    let a = c.args in
-    let l = c.loop-line in
-    let t = turn_of a.inner a.gap a.table.now a.n a.counts.now a.targets.now a.free.now a.rounds.now c.requires
-    l.targets l.free l.rounds l.sum l.start l.line l.invariant c.loop-line-test.true in
-    let k = get_or a.counts.now l.line 0 in
-    omega (
-      arith,
-      t.inside.0,
-      t.less,
-      c.flex_items-f.ensures.few,
-      length-each k (λ i. item_in a.table.now (l.start + i)),
-    )
+    let t = turn (goal.at.overflow_add-sum c).In-loop-line c.loop-line-test.true in
+    omega (arith, t.few, t.less, c.flex_items-flexed.ensures.few, t.part_long)
 
 pub loop-line-preserved : goal.loop-line-preserved
 loop-line-preserved c =
     let a = c.args in
     let l = c.loop-line in
-    let t = turn_of a.inner a.gap a.table.now a.n a.counts.now a.targets.now a.free.now a.rounds.now c.requires
-    l.targets l.free l.rounds l.sum l.start l.line l.invariant c.loop-line-test.true in
-    let k = get_or a.counts.now l.line 0 in
-    let ok = accepted_line a.inner a.gap a.table.now a.n a.counts.now a.targets.now a.free.now a.rounds.now c.requires
-    l.start k (line_inside a.inner a.gap a.table.now a.n a.counts.now a.targets.now a.free.now a.rounds.now
-    c.requires l.targets l.free l.rounds l.sum l.start l.line l.invariant c.loop-line-test.true) in
-    let f = c.flex_items-f in
-    let e = l.start + k in
-    subst (λ (x : List ℤ). Going a.inner a.gap (item_in a.table.now) a.counts.now a.targets.now a.free.now a.rounds.now
-    (put_mid l.start (e - l.start) l.targets f.new.targets) x (set l.rounds l.line f.result.rounds)
+    let t = turn (goal.at.loop-line-preserved c).In-loop-line c.loop-line-test.true in
+    let f = c.flex_items-flexed in
+    let e = l.start + get_or a.counts.now l.line 0 in
+    subst (λ x. Going a.inner a.gap (item_in a.items.now) a.counts.now a.targets.now a.free.now a.rounds.now
+    (put_mid l.start (e - l.start) l.targets f.new.targets) (set l.free l.line x) (set l.rounds l.line f.result.rounds)
     (l.sum + f.result.rounds) e (l.line + 1))
-    (sym (c.put_i32.ensures
-    ∙ ap (λ (z : ℤ). set l.free l.line z)
-    (free_bits a.inner a.gap (items_in a.table.now l.start k) ok f.result.free.0 f.ensures.space)))
-    (going_next a.inner a.gap (item_in a.table.now) a.counts.now a.targets.now a.free.now a.rounds.now l.targets l.free
+    (sym (free_bits a.inner a.gap _ t.accepted f.result.free.0 f.ensures.space))
+    (going_next a.inner a.gap (item_in a.items.now) a.counts.now a.targets.now a.free.now a.rounds.now l.targets l.free
     l.rounds l.sum l.start l.line l.invariant e f.new.targets f.result.free.0 f.result.rounds c.loop-line-test.true
-    refl t.room t.free_room t.rounds_room (f.auto.targets ∙ mid_len l.start e l.targets t.room) f.ensures)
+    refl t.room t.free_room t.rounds_room (f.auto.targets ∙ mid_len l.start e l.targets t.room)
+    (subst (λ items. Flexed a.inner a.gap items f.result.free.0 f.result.rounds (mid_of l.start (e - l.start) l.targets) f.new.targets) t.part_is f.ensures))

@@ -1,19 +1,29 @@
--- The counts, one after another: those before j are positive or not, and have a sum. Assumes nothing.
-use mathlib.Core.Path.{◌∙◌}
-use Rattle.flex_lines.proofs.Counting.{counting_none, counting_next, counting_all}
+-- The counts, one after another: those so far are positive or not, and have a sum. Assumes nothing.
+use mathlib.Core.Path.{◌≡◌, refl, sym, ◌∙◌}
+use mathlib.Core.Bool.{Bool, true, false, ◌&&◌}
+use native.Mathlib.Omega.{arith}
+use Rattle.flex_lines.proofs.Counting.{counting_none, counting_next}
 use Rattle.flex_lines.proofs.is_division.Goals as goal
+use Rattle.flex_lines.proofs.is_division.Goals.{then-positive, else-positive}
 
-pub loop-j-init : goal.loop-j-init
-loop-j-init c = counting_none c.args.counts.now
+both : (a b : Bool) → a ≡ true → b ≡ (b && a)
+both a true e = sym e
+both a false e = refl
 
-pub loop-j-preserved : goal.loop-j-preserved
-loop-j-preserved c =
-    let l = c.loop-j in
-    counting_next c.args.counts.now l.positive l.sum l.j c.wide-c.result c.has_room-positive.result c.loop-j-test.true
-    c.wide-c.ensures.0 c.wide-c.ensures.1 c.has_room-positive.ensures l.invariant
+neither : (a b : Bool) → a ≡ false → a ≡ (b && a)
+neither a true e = refl
+neither a false e = e
 
-pub returns : goal.returns
-returns c =
-    let l = c.loop-j in
-    c.is_alike.ensures
-    ∙ counting_all c.args.counts.now l.positive l.sum l.j c.args.n c.loop-j-test.false l.invariant
+pub loop-count-init : goal.loop-count-init
+loop-count-init c = counting_none c.args.counts.now
+
+pub loop-count-preserved : goal.loop-count-preserved
+loop-count-preserved c =
+    let l = c.loop-count in
+    counting_next c.args.counts.now l.positive l.sum l.count-index _ c.if-positive.positive c.loop-count-test.true refl
+    (omega (arith, c.type_inv.counts l.count-index))
+    (elim c.if-positive.branch [
+      | then-positive w ↦ w.positive-is ∙ both l.positive _ w.if-positive.true
+      | else-positive w ↦ w.positive-is ∙ neither l.positive _ w.if-positive.false
+    ])
+    l.invariant
