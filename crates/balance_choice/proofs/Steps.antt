@@ -26,23 +26,6 @@ bool_case : (b : Bool) → (b ≡ true) ⊎ (b ≡ false)
 bool_case true = inl refl
 bool_case false = inr refl
 
--- ---- the search for an end that no zero item follows
-pub record Passed (sums : List Float) (gap : Float) (from stop end : ℕ) : Type 0 where
-  pub lo : from ≤ end
-  pub hi : from < end → end ≤ stop
-  pub zeros : (e : ℕ) → from ≤ e → e < end → zero_f sums gap e ≡ true
-
-pub passed_more : (sums : List Float) (gap : Float) (from stop end : ℕ) → Passed sums gap from stop end → end < stop → zero_f sums gap end ≡ true → Passed sums gap from stop (end + 1)
-passed_more sums gap from stop end p l h = record {
-  lo = omega (arith, p.lo);
-  hi = λ _. omega arith;
-  zeros = λ e u v. at e u (eq-or-lt_of_le (let g : e ≤ end = omega arith in g));
-}
-  where
-    at : (e : ℕ) → from ≤ e → (e ≡ end) ⊎ (e < end) → zero_f sums gap e ≡ true
-    at e u (inl i) = rw i h
-    at e u (inr i) = p.zeros e u i
-
 -- ---- the scan of a start's ends: `best` leads among those before `end`
 pub record Leading (sums : List Float) (gap : Float) (prev : List Float) (base : Float) (first stop end best : ℕ) (x : Float) : Type 0 where
   pub lo : first ≤ best

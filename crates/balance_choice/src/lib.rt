@@ -7,93 +7,20 @@ ghost use Rattle.std.specs.Float.Ieee.{le};
 ghost use Rattle.balance_sums.specs.Sums.{base_f};
 ghost use Rattle.balance_choice.specs.Cells.{cost_f, zero_f, FirstPlain, LeastOf, choose_f, Safe, PickOut};
 
-use balance_sums::sums::Units;
-use balance_sums::{at, sums};
-use grid::whole::{larger, smaller};
+use balance_sums::{Sums, Units};
 
 // The total of line scores: squares of whole sixty-fourths.
 #[derive(Clone, Copy)]
 pub struct Score(pub f64);
 
-// What a line with this base that ends with the item `end`, and the best division after it, cost. No entry point.
-pub fn cost(sums: &[f64], prev: &[f64], base: Units, end: usize) -> Score
-    requires { (end < length sums.now) × (end + 1 < length prev.now) }
-    ensures { result.0 ≡ cost_f sums.now prev.now base.0 end }
-{
-    let size = sums[end] - base.0;
-    Score(size * size + prev[end + 1])
-}
-
-// Whether a zero item follows the item `end`.
-fn zero_after(sums: &[f64], gap: Units, end: usize) -> bool
-    requires { end + 1 < length sums.now }
-    ensures { result ≡ zero_f sums.now gap.0 end }
-{
-    sums[end + 1] - sums[end] == gap.0
-}
-
-// The first end from `from` on that no zero item follows, or where there is none below `stop`, the first past them.
-fn skip_zeros(sums: &[f64], gap: Units, from: usize, stop: usize) -> usize
-    requires { stop < length sums.now }
-    ensures { FirstPlain sums.now gap.0 from stop result }
-{
-    let mut end = from;
-    while end < stop {
-        if zero_after(sums, gap, end) {
-            end += 1;
-        } else {
-            return end;
-        }
-    }
-    end
-}
-
-// Whether `end`, at this cost, is taken before an earlier end that costs `least`.
-fn beats(sums: &[f64], gap: Units, end: usize, cost: Score, least: Score) -> bool
-    requires { end + 1 < length sums.now }
-    ensures { result ≡ cond (zero_f sums.now gap.0 end) false (le cost.0 least.0) }
-{
-    if zero_after(sums, gap, end) {
-        false
-    } else {
-        cost.0 <= least.0
-    }
-}
-
-// The last of the cheapest ends from `first` up to `stop` that no zero item follows. None follows `first`.
-fn least(sums: &[f64], gap: Units, prev: &[f64], base: Units, first: usize, stop: usize) -> usize
-    requires { (length sums.now ≡ length prev.now) × (first < stop) × (stop < length prev.now)
-        × (zero_f sums.now gap.0 first ≡ false) }
-    ensures { LeastOf sums.now gap.0 prev.now base.0 first stop result }
-{
-    let mut best = first;
-    let mut best_cost = cost(sums, prev, base, first);
-    let mut end = first + 1;
-    while end < stop {
-        let c = cost(sums, prev, base, end);
-        if beats(sums, gap, end, c, best_cost) {
-            best = end;
-            best_cost = c;
-        }
-        end += 1;
-    }
-    best
-}
-
-// `near`, the choice among the ends that no zero item follows, or `far`, the longest line, where a zero item follows
-// that and it costs no more.
-fn choose(sums: &[f64], gap: Units, prev: &[f64], base: Units, near: usize, far: usize) -> usize
-    requires { (length sums.now ≡ length prev.now) × (near + 1 < length prev.now)
-        × (far + 1 < length prev.now) }
-    ensures { result ≡ choose_f sums.now gap.0 prev.now base.0 near far }
-{
-    if zero_after(sums, gap, far) {
-        let a = cost(sums, prev, base, far);
-        let b = cost(sums, prev, base, near);
-        if a.0 <= b.0 { far } else { near }
-    } else {
-        near
-    }
+// A row as its choices read it: the sums, the last item of the longest line from each start, the totals of the row
+// below, and the last end that leaves an item for each of the lines that follow.
+#[derive(Clone, Copy)]
+pub struct Row<'a> {
+    pub sums: Sums<'a>,
+    pub fit: &'a [u32],
+    pub below: &'a [f64],
+    pub max_end: usize,
 }
 
 // What a start chose: the last item of its line, the first end that later starts may need, and the end before which
@@ -105,41 +32,112 @@ pub struct Picked {
     pub hi: usize,
 }
 
-// The choice of one start, whose lines have this base, from the ends `end_lo` up to `end_hi`. No entry point.
-pub fn pick<'a>(
-    sums: &'a [f64],
-    gap: Units,
-    fit: &'a [u32],
-    prev: &'a [f64],
-    max_end: usize,
-    start: usize,
-    base: Units,
-    end_lo: usize,
-    end_hi: usize,
-) -> Picked
-    requires { Safe sums.now fit.now prev.now max_end end_hi × (start ≤ max_end)
-        × (base.0 ≡ base_f sums.now gap.0 start) }
-    ensures { PickOut sums.now gap.0 fit.now prev.now max_end end_lo
-        end_hi start result.end result.lo result.hi }
-{
-    let reach = at(fit, start);
-    let from = larger(end_lo, start);
-    let stop = smaller(end_hi, reach + 1);
-    let first = skip_zeros(sums, gap, from, stop);
-    let far = smaller(reach, max_end);
-    if first < stop {
-        let near = least(sums, gap, prev, base, first, stop);
-        let end = choose(sums, gap, prev, base, near, far);
-        Picked {
-            end: end,
-            lo: near,
-            hi: near + 1,
+impl<'a> Row<'a> {
+    // What a line with this base that ends with the item `end`, and the best division after it, cost. No entry point.
+    pub fn cost(self, base: Units, end: usize) -> Score
+        requires { (end < length self.sums.up_to.now) × (end + 1 < length self.below.now) }
+        ensures { result.0 ≡ cost_f self.entry.sums.up_to.now self.entry.below.now base.0 end }
+    {
+        let size = self.sums.up_to[end] - base.0;
+        Score(size * size + self.below[end + 1])
+    }
+
+    // Whether a zero item follows the item `end`.
+    fn zero_after(self, end: usize) -> bool
+        requires { end + 1 < length self.sums.up_to.now }
+        ensures { result ≡ zero_f self.entry.sums.up_to.now self.entry.sums.gap.0 end }
+    {
+        self.sums.up_to[end + 1] - self.sums.up_to[end] == self.sums.gap.0
+    }
+
+    // The first end from `from` on that no zero item follows, or where there is none below `stop`, the first past them.
+    fn skip_zeros(self, from: usize, stop: usize) -> usize
+        requires { stop < length self.sums.up_to.now }
+        ensures { FirstPlain self.entry.sums.up_to.now self.entry.sums.gap.0 from stop result }
+    {
+        for end in from..stop {
+            if !self.zero_after(end) {
+                return end;
+            }
         }
-    } else {
-        Picked {
-            end: far,
-            lo: first,
-            hi: end_hi,
+        from.max(stop)
+    }
+
+    // Whether `end`, at this cost, is taken before an earlier end that costs `least`.
+    fn beats(self, end: usize, cost: Score, least: Score) -> bool
+        requires { end + 1 < length self.sums.up_to.now }
+        ensures { result ≡ cond (zero_f self.entry.sums.up_to.now self.entry.sums.gap.0 end) false
+            (le cost.0 least.0) }
+    {
+        if self.zero_after(end) {
+            false
+        } else {
+            cost.0 <= least.0
+        }
+    }
+
+    // The last of the cheapest ends from `first` up to `stop` that no zero item follows. None follows `first`.
+    fn least(self, base: Units, first: usize, stop: usize) -> usize
+        requires { (length self.sums.up_to.now ≡ length self.below.now) × (first < stop)
+            × (stop < length self.below.now) × (zero_f self.sums.up_to.now self.sums.gap.0 first ≡ false) }
+        ensures { LeastOf self.entry.sums.up_to.now self.entry.sums.gap.0 self.entry.below.now base.0
+            first stop result }
+    {
+        let mut best = first;
+        let mut best_cost = self.cost(base, first);
+        for end in first + 1..stop {
+            let cost = self.cost(base, end);
+            if self.beats(end, cost, best_cost) {
+                best = end;
+                best_cost = cost;
+            }
+        }
+        best
+    }
+
+    // `near`, the choice among the ends that no zero item follows, or `far`, the longest line, where a zero item
+    // follows that and it costs no more.
+    fn choose(self, base: Units, near: usize, far: usize) -> usize
+        requires { (length self.sums.up_to.now ≡ length self.below.now) × (near + 1 < length self.below.now)
+            × (far + 1 < length self.below.now) }
+        ensures { result ≡ choose_f self.entry.sums.up_to.now self.entry.sums.gap.0 self.entry.below.now base.0
+            near far }
+    {
+        if self.zero_after(far) {
+            let a = self.cost(base, far);
+            let b = self.cost(base, near);
+            if a.0 <= b.0 { far } else { near }
+        } else {
+            near
+        }
+    }
+
+    // The choice of one start, whose lines have this base, from the ends `end_lo` up to `end_hi`. No entry point.
+    pub fn pick(self, start: usize, base: Units, end_lo: usize, end_hi: usize) -> Picked
+        requires { Safe self.sums.up_to.now self.fit.now self.below.now self.max_end end_hi
+            × (start ≤ self.max_end) × (base.0 ≡ base_f self.sums.up_to.now self.sums.gap.0 start) }
+        ensures { PickOut self.entry.sums.up_to.now self.entry.sums.gap.0 self.entry.fit.now self.entry.below.now
+            self.entry.max_end end_lo end_hi start result.end result.lo result.hi }
+    {
+        let reach = self.fit[start] as usize;
+        let from = end_lo.max(start);
+        let stop = end_hi.min(reach + 1);
+        let first = self.skip_zeros(from, stop);
+        let far = reach.min(self.max_end);
+        if first < stop {
+            let near = self.least(base, first, stop);
+            let end = self.choose(base, near, far);
+            Picked {
+                end,
+                lo: near,
+                hi: near + 1,
+            }
+        } else {
+            Picked {
+                end: far,
+                lo: first,
+                hi: end_hi,
+            }
         }
     }
 }

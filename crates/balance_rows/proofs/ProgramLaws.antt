@@ -228,12 +228,7 @@ safe_at sums fit greedy reach prev prev' lines S e a b = record {
   enough = omega arith;
 }
 
-pub record RowsInv (sums : List Float) (gap : Float) (fit greedy reach : List ℕ) (prev₀ cur₀ : List Float) (opts₀ : List ℕ) (K : ℕ) (prev cur : List Float) (opts : List ℕ) (lines row seen : ℕ) : Type 0 where
-  pub prev_length : length prev ≡ length prev₀
-  pub cur_length : length cur ≡ length cur₀
-  pub opts_length : length opts ≡ length opts₀
-  pub two : 2 ≤ lines
-  pub top : lines ≤ K + 1
+pub record RowsInv (sums : List Float) (gap : Float) (fit greedy reach : List ℕ) (prev₀ : List Float) (K : ℕ) (prev : List Float) (opts : List ℕ) (lines row seen : ℕ) : Type 0 where
   pub row_is : row ≡ (lines - 2) * length sums
   pub seen_first : FirstFor greedy (lines - 1) seen
   pub seen_hi : seen ≤ length greedy

@@ -16,6 +16,7 @@ use lib.Ieee.Scale.{round_same}
 use lib.Ieee.Fits.{down_pos}
 use Rattle.grid.specs.Values.{At}
 use Rattle.grid.proofs.Convert.{scale_at}
+use Rattle.std.specs.declared.option.Option.TheVariants.{Some}
 use Rattle.break_greedy.specs.Breaking as limit
 use Rattle.balance_sums.specs.Whole.{Holds}
 use Rattle.balance_rule.specs.Natural.{natural}
@@ -107,6 +108,6 @@ add_end sizes gap sums acc i h e A = record {
 }
 
 -- a definite limit, in pixels
-pub limit_pixels : (v : Float) (z : ℤ) → nat_abs z ≤ 2 ^ 53 → At 64 v z → LimitIs (natural (limit.definite z)) true (scaled_f v)
+pub limit_pixels : (v : Float) (z : ℤ) → nat_abs z ≤ 2 ^ 53 → At 64 v z → LimitIs (natural (limit.definite z)) (Some (record { 0 = scaled_f v }))
 unfolding of_bits
 limit_pixels v z h g = limit_definite z (mul binary64 v sixty_four) (scale_at binary64 0 6 sixty_four zero-le g (refl, refl) h)

@@ -2,7 +2,7 @@
 use mathlib.Core.Path.{◌≡◌, refl, sym, subst, ◌∙◌}
 use mathlib.Core.Logic.{◌⊎◌, inl, inr, ◌≢◌}
 use mathlib.Core.List.{List}
-use mathlib.Core.Bool.{Bool, true, false, true≢false, false≢true}
+use mathlib.Core.Bool.{true, false, true≢false, false≢true}
 use Prim.Native.Nat.{ℕ, suc, ◌+◌, ◌-◌, ◌^◌, ◌≤◌, ◌<◌, max}
 use native.Mathlib.Nat.{le_refl}
 use native.Mathlib.Numerals.{add-one}
@@ -15,6 +15,8 @@ use lib.IntN.{ℤ, pos, negsuc}
 use lib.Signed.{le_z}
 use Rattle.grid.specs.Values.{At}
 use Rattle.grid.proofs.Exact.{le_at}
+use Rattle.std.specs.declared.option.Option.{Option}
+use Rattle.std.specs.declared.option.Option.TheVariants.{Some, None}
 use Rattle.break_greedy.specs.Breaking as limit
 use Rattle.balance_rule.specs.Natural.{Limit, max_content, natural, Fits}
 use Rattle.balance_rule.proofs.DpLaws.{lt_or_ge, Order, order, less, same, more}
@@ -23,14 +25,15 @@ use Rattle.balance_rule.proofs.SizesLaws.{fits_less, size_mono, fit_under, pre_s
 use Rattle.balance_sums.specs.Whole.{Holds}
 use Rattle.balance_sums.proofs.WholeLaws.{holds_at, add_holds}
 use Rattle.balance_sums.specs.Sums.{size_f, ends}
+use Rattle.balance_sums.specs.declared.Units.{Units}
 use Rattle.balance_sums.proofs.SumsLaws.{size_holds}
 use Rattle.balance_tables.specs.Tables.{fits_f, LimitIs, SumsAre, StretchOut, CountsFrom, FitRange, Rising, Falling, Reaches, FirstFor}
 
-pub limit-max : (x : Float) → LimitIs max_content false x
-limit-max x = record { yes-fits = λ y a h t. tt; no_fit = λ y a h t. absurd (true≢false t) }
+pub limit-max : LimitIs max_content None
+limit-max = record { yes-fits = λ y a h t. tt; no_fit = λ y a h t. absurd (true≢false t) }
 
 -- a definite limit of either sign: the comparison is that of the numbers, and a size is not negative
-pub limit_definite : (z : ℤ) (x : Float) → At 1 x z → LimitIs (natural (limit.definite z)) true x
+pub limit_definite : (z : ℤ) (x : Float) → At 1 x z → LimitIs (natural (limit.definite z)) (Some (record { 0 = x }))
 limit_definite z x g = record {
   yes-fits = λ y a h t. yes z a (sym (le_at 1 (omega arith) (holds_at y a h) g) ∙ t);
   no_fit = λ y a h t. none z a (sym (le_at 1 (omega arith) (holds_at y a h) g) ∙ t);
@@ -45,16 +48,16 @@ limit_definite z x g = record {
     none (negsuc m) a t f = f
 
 -- ---- the table of fit ends, up to `start`. `end` is the last one
-pub record FitSoFar (sums : List Float) (gap : Float) (bounded : Bool) (limit : Float) (fit : List ℕ) (start end : ℕ) : Type 0 where
+pub record FitSoFar (sums : List Float) (gap : Float) (most : Option Units) (fit : List ℕ) (start end : ℕ) : Type 0 where
   pub end_hi : 0 < length sums → end < length sums
   pub lo : (s : ℕ) → s < start → s ≤ get_or fit s 0
   pub hi : (s : ℕ) → s < start → get_or fit s 0 < length sums
   pub ends_at : 0 < start → end ≡ get_or fit (start - 1) 0
   pub starts_at : start ≡ 0 → end ≡ 0
-  pub are : (L : Limit) (g : ℕ) (xs : List ℕ) → SumsAre g xs sums gap → LimitIs L bounded limit → (s : ℕ) → s < start → FitEnd L g xs s (ends fit s)
+  pub are : (L : Limit) (g : ℕ) (xs : List ℕ) → SumsAre g xs sums gap → LimitIs L most → (s : ℕ) → s < start → FitEnd L g xs s (ends fit s)
 
-module _ (sums : List Float) (gap : Float) (bounded : Bool) (limit : Float) where
-  pub fit_start : (fit : List ℕ) → FitSoFar sums gap bounded limit fit 0 0
+module _ (sums : List Float) (gap : Float) (most : Option Units) where
+  pub fit_start : (fit : List ℕ) → FitSoFar sums gap most fit 0 0
   fit_start fit = record {
     end_hi = λ h. h;
     lo = λ s h. absurd (omega arith);
@@ -64,8 +67,8 @@ module _ (sums : List Float) (gap : Float) (bounded : Bool) (limit : Float) wher
     are = λ L g xs S T s h. absurd (omega arith);
   }
 
-  pub fit_more : (fit : List ℕ) (start end r : ℕ) → start < length sums → length fit ≡ length sums → FitSoFar sums gap bounded limit fit start end
-      → StretchOut sums gap bounded limit start (max end start) r → FitSoFar sums gap bounded limit (set fit start r) (start + 1) r
+  pub fit_more : (fit : List ℕ) (start end r : ℕ) → start < length sums → length fit ≡ length sums → FitSoFar sums gap most fit start end
+      → StretchOut sums gap most start (max end start) r → FitSoFar sums gap most (set fit start r) (start + 1) r
   fit_more fit start end r sn fl P O = record {
     end_hi = λ _. O.so_far.hi;
     lo = λ s h. at_lo s h (order s start);
@@ -94,7 +97,7 @@ module _ (sums : List Float) (gap : Float) (bounded : Bool) (limit : Float) wher
       at_hi s h (same l) = rw (l, here) O.so_far.hi
       at_hi s h (more l) = absurd (omega arith)
 
-      at : (L : Limit) (g : ℕ) (xs : List ℕ) → SumsAre g xs sums gap → LimitIs L bounded limit → (s : ℕ) → s < start + 1 → Order s start → FitEnd L g xs s (ends (set fit start r) s)
+      at : (L : Limit) (g : ℕ) (xs : List ℕ) → SumsAre g xs sums gap → LimitIs L most → (s : ℕ) → s < start + 1 → Order s start → FitEnd L g xs s (ends (set fit start r) s)
       at L g xs S T s h (less l) = rw (there s l) (P.are L g xs S T s l)
       at L g xs S T s h (more l) = absurd (omega arith)
       at L g xs S T s h (same l) = rw (l, here) (record {
@@ -107,7 +110,7 @@ module _ (sums : List Float) (gap : Float) (bounded : Bool) (limit : Float) wher
           sized : (i : ℕ) → start ≤ i → i < length xs → Holds (size_f sums gap start i) (size_at g xs start (i + 1))
           sized i p q = rw add-one (size_holds sums gap g xs S.gap_is S.sums_are S.small start i p q)
 
-          from_start : (r ≡ max end start) ⊎ (fits_f bounded limit (size_f sums gap start r) ≡ true) → (r + 1 ≡ start + 1) ⊎ Fits L (size_at g xs start (r + 1))
+          from_start : (r ≡ max end start) ⊎ (fits_f most (size_f sums gap start r) ≡ true) → (r + 1 ≡ start + 1) ⊎ Fits L (size_at g xs start (r + 1))
           from_start (inr t) = inr (T.yes-fits (size_f sums gap start r) (size_at g xs start (r + 1)) (sized r (omega (arith, O.so_far.lo)) (omega (arith, O.so_far.hi, S.count))) t)
           from_start (inl t) = old (lt_or_ge start end)
             where

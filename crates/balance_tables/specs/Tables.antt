@@ -1,20 +1,24 @@
 -- The tables that the rows are worked out from: fit ends, greedy counts, how far the first lines reach. Only contracts
 -- of parts cite it. Assumes nothing.
-use Rattle.std.specs.Prelude.{◌≡◌, ◌⊎◌, List, Bool, true, false, cond, ℕ, suc, ◌+◌, ◌^◌, ◌≤◌, ◌<◌, length, get_or, Float}
+use Rattle.std.specs.Prelude.{◌≡◌, ◌⊎◌, List, Bool, true, false, ℕ, suc, ◌+◌, ◌^◌, ◌≤◌, ◌<◌, length, get_or, Float}
 use Rattle.std.specs.Float.{nan}
 use Rattle.std.specs.Float.Ieee.{le}
+use Rattle.std.specs.declared.option.Option.{Option}
+use Rattle.std.specs.declared.option.Option.TheVariants.{Some, None}
 use Rattle.balance_rule.specs.Natural.{Limit, Fits}
 use Rattle.balance_rule.specs.Sizes.{pre, FitEnd}
 use Rattle.balance_sums.specs.Whole.{Holds}
 use Rattle.balance_sums.specs.Sums.{size_f, ends}
+use Rattle.balance_sums.specs.declared.Units.{Units}
 
--- ---- the limit, as the code has it: `bounded` with a number, or not
-abbrev pub fits_f : Bool → Float → Float → Bool
-fits_f bounded limit size = cond bounded (le size limit) true
+-- ---- the limit, as the code has it: the most that a line of several items may measure, where there is such a bound
+abbrev pub fits_f : Option Units → Float → Bool
+fits_f None size = true
+fits_f (Some most) size = le size most.0
 
-pub record LimitIs (limit : Limit) (bounded : Bool) (x : Float) : Type 0 where
-  pub yes-fits : (y : Float) (a : ℕ) → Holds y a → fits_f bounded x y ≡ true → Fits limit a
-  pub no_fit : (y : Float) (a : ℕ) → Holds y a → fits_f bounded x y ≡ false → ¬ Fits limit a
+pub record LimitIs (limit : Limit) (most : Option Units) : Type 0 where
+  pub yes-fits : (y : Float) (a : ℕ) → Holds y a → fits_f most y ≡ true → Fits limit a
+  pub no_fit : (y : Float) (a : ℕ) → Holds y a → fits_f most y ≡ false → ¬ Fits limit a
 
 -- what the sums of the sizes are
 pub record SumsAre (gap : ℕ) (xs : List ℕ) (sums : List Float) (gapF : Float) : Type 0 where
@@ -24,19 +28,19 @@ pub record SumsAre (gap : ℕ) (xs : List ℕ) (sums : List Float) (gapF : Float
   pub small : pre gap xs (length xs) ≤ 2 ^ 24
 
 -- ---- how far a line from s stretches
-pub record Stretched (sums : List Float) (gap : Float) (bounded : Bool) (limit : Float) (s from r : ℕ) : Type 0 where
+pub record Stretched (sums : List Float) (gap : Float) (most : Option Units) (s from r : ℕ) : Type 0 where
   pub lo : from ≤ r
   pub hi : r < length sums
-  pub taken : (r ≡ from) ⊎ (fits_f bounded limit (size_f sums gap s r) ≡ true)
+  pub taken : (r ≡ from) ⊎ (fits_f most (size_f sums gap s r) ≡ true)
 
-pub record StretchOut (sums : List Float) (gap : Float) (bounded : Bool) (limit : Float) (s from r : ℕ) : Type 0 where
-  pub so_far : Stretched sums gap bounded limit s from r
-  pub stopped : r + 1 < length sums → fits_f bounded limit (size_f sums gap s (r + 1)) ≡ false
+pub record StretchOut (sums : List Float) (gap : Float) (most : Option Units) (s from r : ℕ) : Type 0 where
+  pub so_far : Stretched sums gap most s from r
+  pub stopped : r + 1 < length sums → fits_f most (size_f sums gap s (r + 1)) ≡ false
 
-pub record FitsOut (sums : List Float) (gap : Float) (bounded : Bool) (limit : Float) (fit : List ℕ) : Type 0 where
+pub record FitsOut (sums : List Float) (gap : Float) (most : Option Units) (fit : List ℕ) : Type 0 where
   pub lo : (s : ℕ) → s < length sums → s ≤ get_or fit s 0
   pub hi : (s : ℕ) → s < length sums → get_or fit s 0 < length sums
-  pub are : (L : Limit) (g : ℕ) (xs : List ℕ) → SumsAre g xs sums gap → LimitIs L bounded limit → (s : ℕ)
+  pub are : (L : Limit) (g : ℕ) (xs : List ℕ) → SumsAre g xs sums gap → LimitIs L most → (s : ℕ)
       → s < length sums → FitEnd L g xs s (ends fit s)
 
 -- ---- the greedy counts, from the end down to `start`

@@ -6,60 +6,41 @@
 ghost use Rattle.std.specs.Prelude.{length, get_or, ◌≡◌, ◌+◌, ◌≤◌, ◌<◌};
 ghost use Rattle.balance_tables.specs.Tables.{fits_f, StretchOut, FitsOut, FitRange, CountsFrom, Rising, Reaches};
 
-use balance_sums::sums::{Units, line_size};
-use balance_sums::{at, or_zero};
-use grid::whole::larger;
+use balance_sums::{Sums, Units};
 
 pub mod pixels;
 
-// A limit as the tables take it: the most that a line of several items may measure, and whether there is any such
-// bound.
-#[derive(Clone, Copy)]
-pub struct Cap {
-    pub bounded: bool,
-    pub most: Units,
-}
-
-// Whether a line of several items, of this size, fits.
-fn fits(limit: Cap, size: Units) -> bool
-    ensures { result ≡ fits_f limit.bounded limit.most.0 size.0 }
+// Whether a line of several items, of this size, fits: the limit is the most that it may measure, where there is any
+// such bound.
+fn fits(limit: Option<Units>, size: Units) -> bool
+    ensures { result ≡ fits_f limit size.0 }
 {
-    if limit.bounded {
-        size.0 <= limit.most.0
-    } else {
-        true
-    }
+    limit.is_none_or(|most| size.0 <= most.0)
 }
 
 // How far a line from `start` that reaches `from` stretches.
-fn stretch(sums: &[f64], gap: Units, limit: Cap, start: usize, from: usize) -> usize
-    requires { (start ≤ from) × (from < length sums.now) }
-    ensures { StretchOut sums.now gap.0 limit.bounded limit.most.0 start from result }
+fn stretch(sums: Sums, limit: Option<Units>, start: usize, from: usize) -> usize
+    requires { (start ≤ from) × (from < length sums.up_to.now) }
+    ensures { StretchOut sums.entry.up_to.now sums.entry.gap.0 limit start from result }
 {
-    let mut end = from;
-    while end + 1 < sums.len() {
-        let size = line_size(sums, gap, start, end + 1);
-        if fits(limit, size) {
-            end += 1;
-        } else {
+    let last = sums.up_to.len() - 1;
+    for end in from..last {
+        if !fits(limit, sums.line_size(start, end + 1)) {
             return end;
         }
     }
-    end
+    last
 }
 
 // The last item of the longest line from each start. No entry point.
-pub fn fit_ends(sums: &[f64], gap: Units, limit: Cap, fit: &mut [u32])
-    requires { (length fit.old ≡ length sums.now) × (length sums.now ≤ 1024) }
-    ensures { FitsOut sums.now gap.0 limit.bounded limit.most.0 fit.new }
+pub fn fit_ends(sums: Sums, limit: Option<Units>, fit: &mut [u32])
+    requires { (length fit.old ≡ length sums.up_to.now) × (length sums.up_to.now ≤ 1024) }
+    ensures { FitsOut sums.entry.up_to.now sums.entry.gap.0 limit fit.new }
 {
-    let mut start = 0;
-    let mut end = 0;
-    while start < sums.len() {
-        let from = larger(end, start);
-        end = stretch(sums, gap, limit, start, from);
+    let mut end: usize = 0;
+    for start in 0..sums.up_to.len() {
+        end = stretch(sums, limit, start, end.max(start));
         fit[start] = end as u32;
-        start += 1;
     }
 }
 
@@ -68,11 +49,9 @@ pub fn suffix_greedy(fit: &[u32], greedy: &mut [u32])
     requires { (length greedy.old ≡ length fit.now) × (length fit.now ≤ 1024) × FitRange fit.now }
     ensures { CountsFrom fit.now greedy.new 0 }
 {
-    let mut start = fit.len();
-    while 0 < start {
-        start -= 1;
-        let end = at(fit, start);
-        let rest = or_zero(greedy, end + 1);
+    for start in (0..fit.len()).rev() {
+        let end = fit[start] as usize;
+        let rest = greedy.get(end + 1).copied().unwrap_or(0);
         greedy[start] = rest + 1;
     }
 }
@@ -83,12 +62,7 @@ fn past(fit: &[u32], start: usize) -> usize
     ensures { (start < length fit.now → result ≡ get_or fit.now start 0 + 1)
         × (length fit.now ≤ start → result ≡ start) }
 {
-    if start < fit.len() {
-        let end = at(fit, start);
-        end + 1
-    } else {
-        start
-    }
+    fit.get(start).map_or(start, |end| *end as usize + 1)
 }
 
 // How far the first lines reach: no division's line after the first `i` lines starts past cell `i`. No entry point.
@@ -98,10 +72,8 @@ pub fn forward(fit: &[u32], reach: &mut [u32])
     ensures { Reaches fit.now reach.new }
 {
     let mut start = 0;
-    let mut i = 0;
-    while i < reach.len() {
+    for i in 0..reach.len() {
         reach[i] = start as u32;
         start = past(fit, start);
-        i += 1;
     }
 }

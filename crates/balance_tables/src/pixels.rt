@@ -4,7 +4,7 @@ ghost use Rattle.std.specs.Float.Ieee.{is_nan};
 ghost use Rattle.std.specs.Float.{nan};
 ghost use Rattle.balance_tables.specs.Pixels.{scaled_f, SizeOut, AddOut};
 
-use balance_sums::sums::Units;
+use balance_sums::Units;
 
 // A length in pixels as sixty-fourths: exact, since an `f64` has room for every one. No entry point.
 pub fn to_units(v: f32) -> Units
@@ -28,12 +28,9 @@ pub fn add_up(sizes: &[f32], gap: Units, sums: &mut [f64])
         × ((i : ℕ) → i < length sizes.now → T (not (is_nan (get_or sizes.now i nan)))) }
     ensures { AddOut sizes.now gap.0 sums.new }
 {
-    let mut acc = 0.0;
-    let mut i = 0;
-    while i < sizes.len() {
-        let size = to_size(sizes[i]);
-        acc = acc + (size.0 + gap.0);
-        sums[i] = acc;
-        i += 1;
+    let mut sum = 0.0;
+    for (i, size) in sizes.iter().enumerate() {
+        sum += to_size(*size).0 + gap.0;
+        sums[i] = sum;
     }
 }

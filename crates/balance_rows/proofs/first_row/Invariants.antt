@@ -1,5 +1,4 @@
 -- Every cell before `start` is the square of the line from it to the last item.
-use Rattle.std.proofs.Common.{◌≡◌, ◌-◌, ◌≤◌, length}
 use Rattle.std.specs.Float.{binary64}
 use Rattle.std.specs.Float.Ieee.{mul}
 use Rattle.balance_sums.specs.Sums.{size_f}
@@ -8,9 +7,4 @@ use Rattle.balance_rows.proofs.first_row.Given as goal
 
 abbrev pub invariant-loop-start : goal.invariant-loop-start
 invariant-loop-start l =
-    (length l.prev ≡ length l.initial.prev)
-    × (l.start ≤ length l.sums)
-    × Filled l.prev (λ s. mul binary64 (size_f l.sums l.gap.0 s l.last) (size_f l.sums l.gap.0 s l.last)) 0 l.start
-
-abbrev pub decreases-loop-start : goal.decreases-loop-start
-decreases-loop-start l = length l.sums - l.start
+    Filled l.prev (λ s. mul binary64 (size_f l.sums.up_to.now l.sums.gap.0 s l.last) (size_f l.sums.up_to.now l.sums.gap.0 s l.last)) 0 l.start

@@ -3,7 +3,4 @@ use Rattle.std.proofs.Common.{◌≤◌, get_or}
 use Rattle.balance_rows.proofs.first_start.Given as goal
 
 abbrev pub invariant-loop-start : goal.invariant-loop-start
-invariant-loop-start l = (l.start ≤ l.from) × (get_or l.greedy l.start 0 ≤ l.lines)
-
-abbrev pub decreases-loop-start : goal.decreases-loop-start
-decreases-loop-start l = l.start
+invariant-loop-start l = get_or l.greedy l.start 0 ≤ l.lines

@@ -7,6 +7,6 @@ pub returns : goal.returns
 returns c =
     let a = c.args in
     let fill = c.fill_row in
-    one_row a.sums.now a.gap.0 a.fit.now a.prev.now a.lines a.start_lo a.last a.seen (c.smaller-most.result + 1)
+    one_row a.sums.up_to.now a.sums.gap.0 a.fit.now a.prev.now a.lines a.start_lo a.last a.seen (c.min-start_hi.result + 1)
     a.cur.now fill.new.cur c.copy_row.new.to a.opts.now fill.new.opts
-    (omega (arith, c.smaller-most.ensures)) (rw c.less_one-end_lo.ensures at fill.ensures) c.copy_row.ensures
+    (omega (arith, c.min-start_hi.ensures)) (rw c.saturating_sub-end_lo.ensures at fill.ensures) c.copy_row.ensures

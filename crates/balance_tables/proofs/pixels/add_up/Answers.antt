@@ -1,5 +1,5 @@
--- `balance_tables::pixels::add_up` meets its contract: `acc` is the sum of the items before i (PixelsLaws.antt).
-use Rattle.std.proofs.Common.{◌∙◌, length-set}
+-- `balance_tables::pixels::add_up` meets its contract: `sum` is that of the items before item i (PixelsLaws.antt).
+use Rattle.std.proofs.Common.{◌∙◌}
 use Rattle.balance_tables.proofs.PixelsLaws.{add-more}
 use Rattle.balance_tables.proofs.pixels.add_up.Goals as goal
 
@@ -7,4 +7,4 @@ pub loop-i-preserved : goal.loop-i-preserved
 loop-i-preserved c =
     let a = c.args in
     let l = c.loop-i in
-    (simp length-set l.invariant.0, add-more a.sizes.now a.gap.0 l.sums l.acc c.to_size-size.result.0 l.i c.loop-i-test.true (l.invariant.0 ∙ c.requires.0) c.to_size-size.ensures l.invariant.1)
+    add-more a.sizes.now a.gap.0 l.sums l.sum c.to_size.result.0 l.i c.loop-i-test.true (l.auto.sums ∙ c.requires.0) c.to_size.ensures l.invariant
