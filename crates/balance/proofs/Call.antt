@@ -7,19 +7,14 @@ use Prim.Native.Nat.{ℕ, ◌+◌, ◌-◌, ◌*◌, ◌≤◌, ◌<◌, zero-le
 use native.Mathlib.Omega.{arith}
 use borrow.Author.Tests.{lt-ltb}
 use lib.Dec.{T, leb, leb→le}
-use lib.ListN.{length, take, drop, replicate, length-map, length-drop, length-replicate}
+use lib.ListN.{length, take, drop, replicate, length-map, length-drop}
 use lib.IntN.{ℤ}
 use lib.Ieee.{Float, binary64, of_bits}
 use mir.Facts.{and_yes}
 use Rattle.grid.specs.Grid.{sixty_fourths}
-use Rattle.checks.specs.Domain.{Number}
+use Rattle.checks.specs.Domain.{Number, Verdict, Answer, done}
 use Rattle.checks.specs.declared.Refusal.{Refusal}
-use Rattle.checks.specs.declared.Verdict.{Verdict}
-use Rattle.checks.specs.declared.Verdict.TheVariants.{Passed}
-use Rattle.checks.specs.declared.Verdict.TheVariants as verdict
-use Rattle.checks.specs.declared.Answer.{Answer}
-use Rattle.checks.specs.declared.Answer.TheVariants.{Done}
-use Rattle.checks.specs.declared.Answer.TheVariants as answer
+use Rattle.std.specs.declared.result.Result.TheVariants.{Ok, Err}
 use Rattle.checks.proofs.Verdicts.{not_both, same_why}
 use Rattle.keywords.specs.declared.AvailableSpace.{AvailableSpace}
 use Rattle.break_greedy.specs.Breaking.{Limit, limit_of}
@@ -29,7 +24,7 @@ use Rattle.break_greedy.specs.Steps.{Breakable}
 use Rattle.break_greedy.proofs.Accepted.{breakable}
 use Rattle.balance_rule.specs.Rule.{floored, Valid}
 use Rattle.balance.specs.Calls.{BreakLent, break_lent, has_room, balanced_verdict, worked, Divides, BalancedCall}
-use Rattle.balance.specs.Parts.{Roomy, search_lists, SearchRoom, Searched}
+use Rattle.balance.specs.Parts.{Roomy, Searched}
 use Rattle.lists.proofs.Filling.{fill_on}
 use Rattle.balance.proofs.Cells.{cleared_part}
 use Rattle.balance_division.specs.Divided.{BalancedCounts, Cleared, ClearedF}
@@ -42,23 +37,6 @@ room_of n l t =
     let p = and_yes (leb n (length l.counts)) (leb (n * n + 3 * n) (length l.work) && leb (3 * n) (length l.sums)) t in
     let q = and_yes (leb (n * n + 3 * n) (length l.work)) (leb (3 * n) (length l.sums)) p.1 in
     (leb→le n (length l.counts) p.0, leb→le (n * n + 3 * n) (length l.work) q.0, leb→le (3 * n) (length l.sums) q.1)
-
--- the search has room: in the lent lists, and in those of the frame, which have `most` cells
-pub frame_room : (most n : ℕ) (counts work : List ℕ) (sums : List Float) → n ≤ most → Roomy n (break_lent counts work sums)
-    → SearchRoom n (search_lists counts work (replicate most 0) (replicate most 0) (replicate most 0) sums (replicate most (of_bits binary64 0)) (replicate most (of_bits binary64 0)))
-frame_room most n counts work sums h q =
-    let u : n ≤ length (replicate {A = ℕ} most 0) = omega (arith, length-replicate {A = ℕ} most 0) in
-    let f : n ≤ length (replicate most (of_bits binary64 0)) = omega (arith, length-replicate most (of_bits binary64 0)) in
-    record {
-      counts = q.0;
-      opts = omega (arith, q.1);
-      fit = u;
-      greedy = u;
-      reach = u;
-      sums = omega (arith, q.2);
-      prev = f;
-      cur = f;
-    }
 
 -- ---- the cells
 module _ (limit : AvailableSpace) (gap : Float) (minimum : ℕ) (sizes : List Float) where
@@ -112,7 +90,7 @@ verdict_is codes limit gap sizes b room h = go (lt_or_ge 1024 (length sizes))
     go (inr p) = ap (breaking_verdict codes limit gap sizes) (h p)
     go (inl p) = simp (lt-ltb 1024 (length sizes) p)
 
-pub given : (codes : List Number) (limit : AvailableSpace) (gap : Float) (sizes : List Float) (b : BreakLent) → balanced_verdict codes limit gap sizes b ≡ Passed → Breakable limit gap sizes × Roomy (length sizes) b
+pub given : (codes : List Number) (limit : AvailableSpace) (gap : Float) (sizes : List Float) (b : BreakLent) → balanced_verdict codes limit gap sizes b ≡ Ok tt → Breakable limit gap sizes × Roomy (length sizes) b
 given codes limit gap sizes b e =
     let p = breakable codes limit gap sizes (has_room (length sizes) b) e in
     (p.0, room_of (length sizes) b (subst T (sym p.1) tt))
@@ -125,13 +103,13 @@ module _ (limit : AvailableSpace) (gap : Float) (minimum : ℕ) (sizes : List Fl
       (p.lines_are ∙ ap length d ∙ sym q.lines_are, p.cells ∙ ap (λ (l : List ℕ). worked (length sizes) l b) d ∙ sym q.cells)
 
 module _ (codes : List Number) (limit : AvailableSpace) (gap : Float) (minimum : ℕ) (sizes : List Float) (b : BreakLent) where
-  pub call_refused : (why : Refusal) → balanced_verdict codes limit gap sizes b ≡ verdict.Refused why → BalancedCall codes limit gap minimum sizes b (answer.Refused why) b
+  pub call_refused : (why : Refusal) → balanced_verdict codes limit gap sizes b ≡ Err why → BalancedCall codes limit gap minimum sizes b (Err why) b
   call_refused why e = record {
-    refused = λ other f. (ap answer.Refused (same_why e f), refl);
+    refused = λ other f. (ap Err (same_why e f), refl);
     accepted = λ f. absurd (not_both f e);
   }
 
-  pub call_accepted : (lines : ℕ) (a : BreakLent) → balanced_verdict codes limit gap sizes b ≡ Passed → Divides limit gap minimum sizes b lines a → BalancedCall codes limit gap minimum sizes b (Done lines 0) a
+  pub call_accepted : (lines : ℕ) (a : BreakLent) → balanced_verdict codes limit gap sizes b ≡ Ok tt → Divides limit gap minimum sizes b lines a → BalancedCall codes limit gap minimum sizes b (done lines 0) a
   call_accepted lines a e D = record {
     refused = λ why f. absurd (not_both e f);
     accepted = λ _. (lines, refl, D);
@@ -142,12 +120,12 @@ module _ (codes : List Number) (limit : AvailableSpace) (gap : Float) (minimum :
   no_choice r s a c p q = go (balanced_verdict codes limit gap sizes b) refl
     where
       go : (v : Verdict) → balanced_verdict codes limit gap sizes b ≡ v → (r ≡ s) × (a ≡ c)
-      go (verdict.Refused why) e =
+      go (Err why) e =
           let x = p.refused why e in
           let y = q.refused why e in
           (x.0 ∙ sym y.0, x.1 ∙ sym y.1)
-      go Passed e =
+      go (Ok tt) e =
           let x = p.accepted e in
           let y = q.accepted e in
           let o = divides-one limit gap minimum sizes b x.0 y.0 a c x.2 y.2 in
-          (x.1 ∙ ap (λ (k : ℕ). Done k 0) o.0 ∙ sym y.1, o.1)
+          (x.1 ∙ ap (λ (k : ℕ). done k 0) o.0 ∙ sym y.1, o.1)

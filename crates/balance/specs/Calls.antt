@@ -1,18 +1,13 @@
 -- The balanced call: what it takes, checks and answers (document 01, "Domain and refusal numbers" and "Breaking").
 -- Assumes nothing.
 use Rattle.std.specs.Prelude.{◌≡◌, Bool, ◌&&◌, List, ◌++◌, ℕ, ◌+◌, ◌*◌, leb, length, drop, replicate, Float}
+use Rattle.std.specs.declared.result.Result.TheVariants.{Ok, Err}
 use Rattle.std.specs.Float.{binary64}
 use Rattle.std.specs.Float.Ieee.{of_bits}
 use Rattle.grid.specs.Grid.{sixty_fourths}
-use Rattle.checks.specs.Domain.{Number}
+use Rattle.checks.specs.Domain.{Number, Verdict, Answer, done}
 use Rattle.checks.specs.Shapes.{work_room}
 use Rattle.checks.specs.declared.Refusal.{Refusal}
-use Rattle.checks.specs.declared.Verdict.{Verdict}
-use Rattle.checks.specs.declared.Verdict.TheVariants.{Passed}
-use Rattle.checks.specs.declared.Verdict.TheVariants as verdict
-use Rattle.checks.specs.declared.Answer.{Answer}
-use Rattle.checks.specs.declared.Answer.TheVariants.{Done}
-use Rattle.checks.specs.declared.Answer.TheVariants as answer
 use Rattle.keywords.specs.declared.AvailableSpace.{AvailableSpace}
 use Rattle.break_greedy.specs.Breaking.{limit_of}
 use Rattle.break_greedy.specs.Calls.{breaking_verdict, units, count_cells}
@@ -63,7 +58,7 @@ Divides = DividesLeaving worked
 -- counts. The codes are those that came before the limit
 pub record BalancedCall (codes : List Number) (limit : AvailableSpace) (gap : Float) (minimum : ℕ) (sizes : List Float)
     (before : BreakLent) (r : Answer) (after : BreakLent) : Type 0 where
-  pub refused : (why : Refusal) → balanced_verdict codes limit gap sizes before ≡ verdict.Refused why
-      → (r ≡ answer.Refused why) × (after ≡ before)
-  pub accepted : balanced_verdict codes limit gap sizes before ≡ Passed → (lines : ℕ) × (r ≡ Done lines 0)
+  pub refused : (why : Refusal) → balanced_verdict codes limit gap sizes before ≡ Err why
+      → (r ≡ Err why) × (after ≡ before)
+  pub accepted : balanced_verdict codes limit gap sizes before ≡ Ok tt → (lines : ℕ) × (r ≡ done lines 0)
       × Divides limit gap minimum sizes before lines after

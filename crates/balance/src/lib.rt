@@ -4,147 +4,62 @@
 ghost use Rattle.std.specs.Prelude.{◌≡◌, [], ◌≤◌, length};
 ghost use Rattle.break_greedy.specs.Steps.{Breakable};
 ghost use Rattle.balance.specs.Calls.{break_lent, room_for, Divides, BalancedCall};
-ghost use Rattle.balance.specs.Parts.{Roomy, search_lists, SearchRoom, Searched};
+ghost use Rattle.balance.specs.Parts.{Roomy, Searched};
 
-use balance_division::divide;
+use balance_division::{Breaking, divide};
+use balance_run::Scratch;
 use break_greedy::check_breaking;
 use checks::shapes::has_work_room;
-use checks::{Answer, Verdict, no_mark};
+use checks::{Done, Refusal, no_mark};
 use keywords::AvailableSpace;
-use lists::{clear_f64, clear_u32};
 
-// The search in lists that may have more cells than it takes: the first n of each are lent, and n * n of opts.
-fn divide_within(
-    limit: AvailableSpace,
-    gap: f32,
-    minimum: u32,
-    sizes: &[f32],
+// The search of up to N items. Two parts of one lent list cannot be lent at a time, so five lists of the search are the
+// frame's. The first n cells of each list are lent to it, and n * n of `work`.
+fn divide_sized<const N: usize>(
+    breaking: Breaking,
     counts: &mut [u32],
-    opts: &mut [u32],
-    fit: &mut [u32],
-    greedy: &mut [u32],
-    reach: &mut [u32],
+    work: &mut [u32],
     sums: &mut [f64],
-    prev: &mut [f64],
-    cur: &mut [f64],
 ) -> usize
-    requires { Breakable limit gap sizes.now × SearchRoom (length sizes.now)
-        (search_lists counts.old opts.old fit.old greedy.old reach.old sums.old prev.old cur.old) }
-    ensures { Searched limit gap minimum sizes.now
-        (break_lent counts.old opts.old sums.old) result
-        (break_lent counts.new opts.new sums.new) }
+    requires { Breakable breaking.limit breaking.gap breaking.sizes.now × (Roomy (length breaking.sizes.now)
+        (break_lent counts.old work.old sums.old)) × (length breaking.sizes.now ≤ N) × (N ≤ 1024) }
+    ensures { Searched breaking.entry.limit breaking.entry.gap breaking.entry.minimum breaking.entry.sizes.now
+        (break_lent counts.old work.old sums.old) result (break_lent counts.new work.new sums.new) }
 {
-    let n = sizes.len();
-    let cells = n * n;
+    let n = breaking.sizes.len();
+    let mut fit = [0u32; N];
+    let mut greedy = [0u32; N];
+    let mut reach = [0u32; N];
+    let mut prev = [0.0f64; N];
+    let mut cur = [0.0f64; N];
+    let scratch = Scratch {
+        fit: &mut fit[..n],
+        greedy: &mut greedy[..n],
+        reach: &mut reach[..n],
+        prev: &mut prev[..n],
+        cur: &mut cur[..n],
+    };
     divide(
-        limit,
-        gap,
-        minimum,
-        sizes,
+        breaking,
+        scratch,
         &mut counts[..n],
-        &mut opts[..cells],
-        &mut fit[..n],
-        &mut greedy[..n],
-        &mut reach[..n],
+        &mut work[..n * n],
         &mut sums[..n],
-        &mut prev[..n],
-        &mut cur[..n],
     )
 }
 
-// Two parts of one lent list cannot be lent at a time, so five lists of the search are the frame's. Of two lengths,
-// since they are cleared whatever n is: few items then pay for few cells.
-fn divide_few(
-    limit: AvailableSpace,
-    gap: f32,
-    minimum: u32,
-    sizes: &[f32],
-    counts: &mut [u32],
-    work: &mut [u32],
-    sums: &mut [f64],
-) -> usize
-    requires { Breakable limit gap sizes.now × (Roomy (length sizes.now)
-        (break_lent counts.old work.old sums.old)) × (length sizes.now ≤ 256) }
-    ensures { Searched limit gap minimum sizes.now
-        (break_lent counts.old work.old sums.old) result
-        (break_lent counts.new work.new sums.new) }
-{
-    let mut fit = [0u32; 256];
-    let mut greedy = [0u32; 256];
-    let mut reach = [0u32; 256];
-    let mut prev = [0.0f64; 256];
-    let mut cur = [0.0f64; 256];
-    divide_within(
-        limit,
-        gap,
-        minimum,
-        sizes,
-        counts,
-        work,
-        &mut fit,
-        &mut greedy,
-        &mut reach,
-        sums,
-        &mut prev,
-        &mut cur,
-    )
-}
-
-fn divide_many(
-    limit: AvailableSpace,
-    gap: f32,
-    minimum: u32,
-    sizes: &[f32],
-    counts: &mut [u32],
-    work: &mut [u32],
-    sums: &mut [f64],
-) -> usize
-    requires { Breakable limit gap sizes.now × Roomy (length sizes.now)
+// Two sizes of the frame, since it is cleared whatever n is: few items then pay for few cells.
+fn search(breaking: Breaking, counts: &mut [u32], work: &mut [u32], sums: &mut [f64]) -> usize
+    requires { Breakable breaking.limit breaking.gap breaking.sizes.now × Roomy (length breaking.sizes.now)
         (break_lent counts.old work.old sums.old) }
-    ensures { Searched limit gap minimum sizes.now
-        (break_lent counts.old work.old sums.old) result
-        (break_lent counts.new work.new sums.new) }
+    ensures { Searched breaking.entry.limit breaking.entry.gap breaking.entry.minimum breaking.entry.sizes.now
+        (break_lent counts.old work.old sums.old) result (break_lent counts.new work.new sums.new) }
 {
-    let mut fit = [0u32; 1024];
-    let mut greedy = [0u32; 1024];
-    let mut reach = [0u32; 1024];
-    let mut prev = [0.0f64; 1024];
-    let mut cur = [0.0f64; 1024];
-    divide_within(
-        limit,
-        gap,
-        minimum,
-        sizes,
-        counts,
-        work,
-        &mut fit,
-        &mut greedy,
-        &mut reach,
-        sums,
-        &mut prev,
-        &mut cur,
-    )
-}
-
-fn search(
-    limit: AvailableSpace,
-    gap: f32,
-    minimum: u32,
-    sizes: &[f32],
-    counts: &mut [u32],
-    work: &mut [u32],
-    sums: &mut [f64],
-) -> usize
-    requires { Breakable limit gap sizes.now × Roomy (length sizes.now)
-        (break_lent counts.old work.old sums.old) }
-    ensures { Searched limit gap minimum sizes.now
-        (break_lent counts.old work.old sums.old) result
-        (break_lent counts.new work.new sums.new) }
-{
-    if sizes.len() <= 256 {
-        return divide_few(limit, gap, minimum, sizes, counts, work, sums);
+    if breaking.sizes.len() <= 256 {
+        divide_sized::<256>(breaking, counts, work, sums)
+    } else {
+        divide_sized::<1024>(breaking, counts, work, sums)
     }
-    divide_many(limit, gap, minimum, sizes, counts, work, sums)
 }
 
 // The balanced division of accepted sizes, and all named work cells 0. No entry point.
@@ -164,9 +79,15 @@ pub fn divide_lent(
         (break_lent counts.new work.new sums.new) }
 {
     let n = sizes.len();
-    let lines = search(limit, gap, minimum, sizes, counts, work, sums);
-    clear_u32(work, n * n, n * n + 3 * n);
-    clear_f64(sums, n, 3 * n);
+    let breaking = Breaking {
+        limit,
+        gap,
+        minimum,
+        sizes,
+    };
+    let lines = search(breaking, counts, work, sums);
+    lists::clear(work, n * n, n * n + 3 * n, 0);
+    lists::clear(sums, n, 3 * n, 0.0);
     lines
 }
 
@@ -175,13 +96,7 @@ pub fn divide_lent(
 pub fn has_room(n: usize, counts: usize, work: usize, sums: usize) -> bool
     ensures { n ≤ 1024 → result ≡ room_for n counts work sums }
 {
-    if 1024 < n {
-        return false;
-    }
-    if counts < n {
-        return false;
-    }
-    has_work_room(n, work, sums)
+    n <= 1024 && n <= counts && has_work_room(n, work, sums)
 }
 
 // Balanced breaking of any bits.
@@ -193,20 +108,16 @@ pub fn balanced(
     counts: &mut [u32],
     work: &mut [u32],
     sums: &mut [f64],
-) -> Answer
+) -> Result<Done, Refusal>
     ensures { BalancedCall [] limit gap minimum sizes.now
         (break_lent counts.old work.old sums.old) result
         (break_lent counts.new work.new sums.new) }
 {
     let room = has_room(sizes.len(), counts.len(), work.len(), sums.len());
-    match check_breaking(no_mark(), limit, gap, sizes, room) {
-        Verdict::Refused(why) => Answer::Refused(why),
-        Verdict::Passed => {
-            let lines = divide_lent(limit, gap, minimum, sizes, counts, work, sums);
-            Answer::Done {
-                lines: lines as u32,
-                rounds: 0,
-            }
-        }
-    }
+    check_breaking(no_mark(), limit, gap, sizes, room)?;
+    let lines = divide_lent(limit, gap, minimum, sizes, counts, work, sums);
+    Ok(Done {
+        lines: lines as u32,
+        rounds: 0,
+    })
 }

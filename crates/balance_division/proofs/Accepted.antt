@@ -10,6 +10,9 @@ use lib.ListN.{length, get_or, length-map}
 use lib.IntN.{ℤ, pos, negsuc, nat_abs}
 use lib.Ieee.{Float, nan, inf, fin, binary64, is_nan, neg, of_bits}
 use lib.Ieee.Exact.{HasValue}
+use Rattle.std.specs.declared.option.Option.{Option}
+use Rattle.std.specs.declared.option.Option.TheVariants.{Some, None}
+use Rattle.balance_sums.specs.declared.Units.{Units}
 use Rattle.grid.specs.Grid.{sixty_fourths, signed}
 use Rattle.grid.specs.Values.{Length}
 use Rattle.grid.proofs.Meaning.{at_of_grid}
@@ -50,7 +53,7 @@ size_is x l =
     let a = at_of_grid x l.grid in
     subst (λ (z : ℤ). SizeIs x (size z)) a.total (size_signed a.sign a.size x a.value)
 
-pub limit_is : (x : Float) → Length x → LimitIs (natural (definite (sixty_fourths x))) true (scaled_f x)
+pub limit_is : (x : Float) → Length x → LimitIs (natural (definite (sixty_fourths x))) (Some (record { 0 = scaled_f x }))
 limit_is x l = limit_pixels x (sixty_fourths x) (omega (arith, l.small)) (at_of_grid x l.grid)
 
 -- ---- the limit, by its cases
@@ -60,17 +63,17 @@ definite_length limit x e l = rw e at l
 pub definite_not_nan : (limit : AvailableSpace) (x : Float) → limit ≡ Definite x → LengthLimit limit → T (not (is_nan x))
 definite_not_nan limit x e l = not_nan x (definite_length limit x e l)
 
-pub cap_definite : (limit : AvailableSpace) (x r : Float) → limit ≡ Definite x → LengthLimit limit → r ≡ scaled_f x → LimitIs (natural (limit_of limit)) true r
+pub most_definite : (limit : AvailableSpace) (x : Float) (most : Units) → limit ≡ Definite x → LengthLimit limit → most.0 ≡ scaled_f x → LimitIs (natural (limit_of limit)) (Some most)
 unfolding limit_of
-cap_definite limit x r e l q = rw (e, q) (limit_is x (definite_length limit x e l))
+most_definite limit x most e l q = rw e (subst (λ (r : Float). LimitIs (natural (definite (sixty_fourths x))) (Some (record { 0 = r }))) (sym q) (limit_is x (definite_length limit x e l)))
 
-pub cap_min : (limit : AvailableSpace) → limit ≡ MinContent → LimitIs (natural (limit_of limit)) true (neg (of_bits binary64 4607182418800017408))
+pub most_min : (limit : AvailableSpace) → limit ≡ MinContent → LimitIs (natural (limit_of limit)) (Some (record { 0 = neg (of_bits binary64 4607182418800017408) }))
 unfolding limit_of of_bits neg
-cap_min limit e = rw e (limit_definite (negsuc 0) (neg (of_bits binary64 4607182418800017408)) (record { sign = true; size = 1; value = (refl, refl); total = refl }))
+most_min limit e = rw e (limit_definite (negsuc 0) (neg (of_bits binary64 4607182418800017408)) (record { sign = true; size = 1; value = (refl, refl); total = refl }))
 
-pub cap_max : (limit : AvailableSpace) → limit ≡ MaxContent → LimitIs (natural (limit_of limit)) false (of_bits binary64 0)
+pub most_max : (limit : AvailableSpace) → limit ≡ MaxContent → LimitIs (natural (limit_of limit)) None
 unfolding limit_of
-cap_max limit e = rw e (limit-max (of_bits binary64 0))
+most_max limit e = rw e limit-max
 
 -- ---- the sizes
 size_le : (z : ℤ) → size z ≤ nat_abs z
@@ -109,8 +112,8 @@ module _ (limit : AvailableSpace) (gap : Float) (sizes : List Float) (B : Breaka
   pub sizes_not_nan : (i : ℕ) → i < length sizes → T (not (is_nan (get_or sizes i nan)))
   sizes_not_nan i h = not_nan (get_or sizes i nan) (B.each.each i h)
 
-  abbrev pub run_given : (gapU : Float) (bounded : Bool) (most : Float) → SizeOut gap gapU → LimitIs (natural (limit_of limit)) bounded most → RunIn sizes gapU bounded most
-  run_given gapU bounded most G L =
+  abbrev pub run_given : (gapU : Float) (most : Option Units) → SizeOut gap gapU → LimitIs (natural (limit_of limit)) most → RunIn sizes gapU most
+  run_given gapU most G L =
       let g : ℕ = B.gap_not_below_0.0 in
       let e : sixty_fourths gap ≡ pos g = B.gap_not_below_0.1 in
       record {
@@ -128,10 +131,10 @@ module _ (limit : AvailableSpace) (gap : Float) (sizes : List Float) (B : Breaka
         limit_is = L;
       }
 
-  pub divided : (gapU : Float) (bounded : Bool) (most : Float) (minimum r : ℕ) (counts : List ℕ) → SizeOut gap gapU → LimitIs (natural (limit_of limit)) bounded most
-      → RunOut sizes gapU bounded most minimum r counts → BalancedCounts limit gap minimum sizes r counts
-  divided gapU bounded most minimum r counts G L O =
-      let I = run_given gapU bounded most G L in
+  pub divided : (gapU : Float) (most : Option Units) (minimum r : ℕ) (counts : List ℕ) → SizeOut gap gapU → LimitIs (natural (limit_of limit)) most
+      → RunOut sizes gapU most minimum r counts → BalancedCounts limit gap minimum sizes r counts
+  divided gapU most minimum r counts G L O =
+      let I = run_given gapU most G L in
       record {
         division = O.division;
         balanced = rw B.gap_not_below_0.1 (balanced_is (limit_of limit) I.g (units sizes) minimum O.division (O.balanced I));

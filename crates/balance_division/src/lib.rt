@@ -9,31 +9,31 @@ ghost use Rattle.balance_rule.specs.Natural.{natural};
 ghost use Rattle.balance_tables.specs.Tables.{LimitIs};
 ghost use Rattle.balance_division.specs.Divided.{BalancedCounts, Cleared, ClearedF};
 
-use balance_run::counts_of_sizes;
-use balance_sums::sums::Units;
-use balance_tables::Cap;
+use balance_run::{Scratch, counts_of_sizes};
+use balance_sums::Units;
 use balance_tables::pixels::{to_size, to_units};
 use keywords::AvailableSpace;
-use lists::{clear_f64, clear_u32};
 
-// The limit in sixty-fourths. Under min-content no line of several items fits, and no size is below 0.
-fn cap(limit: AvailableSpace) -> Cap
+// What is divided into lines: sizes with a gap between neighbours, into as few lines as the limit allows, but no fewer
+// than the minimum.
+#[derive(Clone, Copy)]
+pub struct Breaking<'a> {
+    pub limit: AvailableSpace,
+    pub gap: f32,
+    pub minimum: u32,
+    pub sizes: &'a [f32],
+}
+
+// The most that a line of several items may measure, in sixty-fourths, where there is any such bound. Under min-content
+// none fits, and -1 says so, since no size is below 0: the search then compares numbers, whatever the limit.
+fn most(limit: AvailableSpace) -> Option<Units>
     requires { LengthLimit limit }
-    ensures { LimitIs (natural (limit_of limit)) result.bounded result.most.0 }
+    ensures { LimitIs (natural (limit_of limit)) result }
 {
     match limit {
-        AvailableSpace::Definite(x) => Cap {
-            bounded: true,
-            most: to_units(x),
-        },
-        AvailableSpace::MinContent => Cap {
-            bounded: true,
-            most: Units(-1.0),
-        },
-        AvailableSpace::MaxContent => Cap {
-            bounded: false,
-            most: Units(0.0),
-        },
+        AvailableSpace::Definite(x) => Some(to_units(x)),
+        AvailableSpace::MinContent => Some(Units(-1.0)),
+        AvailableSpace::MaxContent => None,
     }
 }
 
@@ -41,46 +41,30 @@ fn cap(limit: AvailableSpace) -> Cap
 // that a caller may lend (opts and sums) are left zero: they may hold anything before a call, so each cell is owed. No
 // entry point.
 pub fn divide(
-    limit: AvailableSpace,
-    gap: f32,
-    minimum: u32,
-    sizes: &[f32],
+    breaking: Breaking,
+    scratch: Scratch,
     counts: &mut [u32],
     opts: &mut [u32],
-    fit: &mut [u32],
-    greedy: &mut [u32],
-    reach: &mut [u32],
     sums: &mut [f64],
-    prev: &mut [f64],
-    cur: &mut [f64],
 ) -> usize
-    requires breakable { Breakable limit gap sizes.now }
-    requires room { (length counts.old ≡ length sizes.now)
-        × (length opts.old ≡ length sizes.now * length sizes.now) × (length fit.old ≡ length sizes.now)
-        × (length greedy.old ≡ length sizes.now) × (length reach.old ≡ length sizes.now)
-        × (length sums.old ≡ length sizes.now) × (length prev.old ≡ length sizes.now)
-        × (length cur.old ≡ length sizes.now) }
-    ensures balanced_counts { BalancedCounts limit gap minimum sizes.now result counts.new }
+    requires breakable { Breakable breaking.limit breaking.gap breaking.sizes.now }
+    requires room { (length counts.old ≡ length breaking.sizes.now)
+        × (length opts.old ≡ length breaking.sizes.now * length breaking.sizes.now)
+        × (length scratch.fit.now ≡ length breaking.sizes.now) × (length scratch.greedy.now ≡ length breaking.sizes.now)
+        × (length scratch.reach.now ≡ length breaking.sizes.now) × (length sums.old ≡ length breaking.sizes.now)
+        × (length scratch.prev.now ≡ length breaking.sizes.now) × (length scratch.cur.now ≡ length breaking.sizes.now) }
+    ensures balanced_counts { BalancedCounts breaking.entry.limit breaking.entry.gap breaking.entry.minimum breaking.entry.sizes.now result
+        counts.new }
     ensures cleared { Cleared opts.old opts.new × ClearedF sums.old sums.new }
 {
-    if sizes.len() == 0 {
+    if breaking.sizes.is_empty() {
         return 0;
     }
-    let lines = counts_of_sizes(
-        sizes,
-        to_size(gap),
-        cap(limit),
-        minimum as usize,
-        sums,
-        prev,
-        cur,
-        fit,
-        greedy,
-        reach,
-        opts,
-        counts,
-    );
-    clear_u32(opts, 0, opts.len());
-    clear_f64(sums, 0, sums.len());
+    let gap = to_size(breaking.gap);
+    let most = most(breaking.limit);
+    let minimum = breaking.minimum as usize;
+    let lines = counts_of_sizes(breaking.sizes, gap, most, minimum, scratch, sums, opts, counts);
+    lists::clear(opts, 0, opts.len(), 0);
+    lists::clear(sums, 0, sums.len(), 0.0);
     lines
 }

@@ -112,6 +112,6 @@ pub fn counts_of_sizes(
         opts,
         counts,
     );
-    lists::clear_u32(counts, lines, sizes.len());
+    lists::clear(counts, lines, sizes.len(), 0);
     lines
 }

@@ -9,4 +9,4 @@ returns c =
     let d = c.search-lines in
     divides a.limit a.gap a.minimum a.sizes.now (break_lent a.counts.now a.work.now a.sums.now)
     (break_lent d.new.counts d.new.work d.new.sums) d.result _ _ d.ensures
-    c.clear_u32.ensures c.clear_f64.ensures
+    c.clear.ensures c.clear-2.ensures

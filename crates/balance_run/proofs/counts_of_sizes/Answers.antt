@@ -10,5 +10,5 @@ returns c =
     let q = c.requires.room in
     let au = c.add_up in
     let ba = c.line_item_counts-lines in
-    let cl = c.clear_u32 in
+    let cl = c.clear in
     run_out a.sizes.now a.gap.0 a.limit au.new.sums a.minimum ba.result ba.new.counts cl.new.cells au.ensures (au.auto.sums ∙ q.0) (ba.auto.counts ∙ q.7) (cl.ensures ∙ fill_rest 0 ba.result (length a.sizes.now) ba.new.counts (ba.auto.counts ∙ q.7)) ba.ensures
