@@ -32,9 +32,7 @@ pub fn add_up(s: Sums, it: Item, growing: bool, frozen: bool, target: f32) -> Su
     if frozen {
         return Sums {
             outer: s.outer + outer_size(it, target),
-            factors: s.factors,
-            weights: s.weights,
-            left: s.left,
+            ..s
         };
     }
     Sums {
@@ -45,6 +43,7 @@ pub fn add_up(s: Sums, it: Item, growing: bool, frozen: bool, target: f32) -> Su
     }
 }
 
+// As the definition has it: `abs` would make 0.0 of -0.0.
 fn magnitude_of(x: f32) -> f32
     ensures { result ≡ magnitude x }
 {
@@ -52,6 +51,7 @@ fn magnitude_of(x: f32) -> f32
 }
 
 // Step 4b: factors that sum below 1 share out only that part of the initial free space, where it is the smaller.
+#[tactic(auto, unfolding(crate::specs::Flex::limited))]
 fn limit(initial: f32, factors: f32, free: f32) -> f32
     ensures { result ≡ limited initial factors free }
 {

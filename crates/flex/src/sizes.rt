@@ -6,6 +6,7 @@ ghost use Rattle.flex.specs.Flex.{freezes};
 use crate::{Item, Share};
 use grid::floats::{lower, raise};
 
+#[tactic(auto, unfolding(crate::specs::Flex::clamp))]
 pub fn clamped(it: Item, x: f32) -> f32
     ensures { result ≡ clamp it x }
 {
@@ -46,6 +47,7 @@ pub fn weight_of(it: Item, growing: bool) -> f32
 }
 
 // Step 2: whether the item is frozen from the start.
+#[tactic(auto, unfolding(crate::specs::Flex::inflexible))]
 pub fn is_inflexible(it: Item, growing: bool) -> bool
     ensures { result ≡ inflexible growing it }
 {
@@ -61,6 +63,7 @@ pub fn is_inflexible(it: Item, growing: bool) -> bool
 }
 
 // Step 4c.
+#[tactic(auto, unfolding(crate::specs::Flex::flexed))]
 pub fn flexed_size(it: Item, sh: Share) -> f32
     ensures { result ≡ flexed sh it }
 {
@@ -74,6 +77,7 @@ pub fn flexed_size(it: Item, sh: Share) -> f32
 }
 
 // Step 4e: whether an item is frozen, by the total of the violations and its own.
+#[tactic(auto, unfolding(crate::specs::Flex::freezes))]
 pub fn is_frozen(sum: f32, v: f32) -> bool
     ensures { result ≡ freezes sum v }
 {

@@ -18,8 +18,8 @@ fn hypothetical_sum(items: &[Item]) -> f32
     ensures { result ≡ total (λ it. outer it (hypothetical it)) items.now }
 {
     let mut s = 0.0;
-    for it in items {
-        s = s + outer_size(*it, hypothetical_size(*it));
+    for &it in items {
+        s = s + outer_size(it, hypothetical_size(it));
     }
     s
 }
@@ -42,9 +42,9 @@ fn begin(items: &[Item], growing: bool, frozen: &mut [bool], targets: &mut [f32]
     ensures { Rewritten items.now (map (start_cell growing) items.now) targets.old
         frozen.new targets.new }
 {
-    for (i, it) in items.iter().enumerate() {
-        frozen[i] = is_inflexible(*it, growing);
-        targets[i] = hypothetical_size(*it);
+    for (i, &it) in items.iter().enumerate() {
+        frozen[i] = is_inflexible(it, growing);
+        targets[i] = hypothetical_size(it);
     }
 }
 

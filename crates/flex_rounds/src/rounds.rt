@@ -20,8 +20,8 @@ pub fn sum_up(items: &[Item], growing: bool, frozen: &[bool], targets: &[f32]) -
         weights: 0.0,
         left: 0,
     };
-    for (i, it) in items.iter().enumerate() {
-        s = add_up(s, *it, growing, frozen[i], targets[i]);
+    for (i, &it) in items.iter().enumerate() {
+        s = add_up(s, it, growing, frozen[i], targets[i]);
     }
     s
 }
@@ -36,12 +36,12 @@ fn flex_sizes(items: &[Item], sh: Share, frozen: &[bool], targets: &mut [f32]) -
         frozen.now targets.new }
 {
     let mut sum = 0.0;
-    for (i, it) in items.iter().enumerate() {
+    for (i, &it) in items.iter().enumerate() {
         if frozen[i] {
             continue;
         }
-        let size = flexed_size(*it, sh);
-        sum = sum + (clamped(*it, size) - size);
+        let size = flexed_size(it, sh);
+        sum = sum + (clamped(it, size) - size);
         targets[i] = size;
     }
     sum
@@ -54,12 +54,12 @@ fn settle_all(items: &[Item], sum: f32, frozen: &mut [bool], targets: &mut [f32]
         (cells_of items.now frozen.old targets.old)) targets.old
         frozen.new targets.new }
 {
-    for (i, it) in items.iter().enumerate() {
+    for (i, &it) in items.iter().enumerate() {
         if frozen[i] {
             continue;
         }
         let size = targets[i];
-        let held = clamped(*it, size);
+        let held = clamped(it, size);
         frozen[i] = is_frozen(sum, held - size);
         targets[i] = held;
     }

@@ -25,8 +25,8 @@ pub fn outer_sum(items: &[Item], gap: f32) -> u64
 {
     let g = grid::to_sixtyfourths(gap);
     let mut total = 0;
-    for it in items {
-        total = checks_number::add_outer(total, outer_units(*it), g);
+    for &it in items {
+        total = checks_number::add_outer(total, outer_units(it), g);
     }
     total
 }
