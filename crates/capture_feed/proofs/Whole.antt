@@ -10,12 +10,10 @@ use lib.Seq.{take_all}
 use lib.Ieee.{Float}
 use Rattle.capture_format.specs.Format.{first_front, later_front}
 use Rattle.capture_format.specs.Reading.{Rest, sizes, faulty, ending, item_records, Reading, whole, broken, by_head, reading, as_written}
-use Rattle.capture_feed.specs.Machine.{Fed, with_sizes, fed, started, finished, by_stage, SoundReader, ReaderReady}
+use Rattle.capture_feed.specs.Machine.{Fed, with_sizes, fed, started, Finished, finished, by_stage, SoundReader, ReaderReady}
 use Rattle.capture_format.specs.declared.Head.{Head}
 use Rattle.capture_feed.specs.declared.Reader.{Reader}
-use Rattle.capture_feed.specs.declared.Captured.{Captured}
-use Rattle.capture_feed.specs.declared.Captured.TheVariants.{Whole}
-use Rattle.capture_feed.specs.declared.Captured.TheVariants as captured
+use Rattle.std.specs.Prelude.{Ok, Err}
 use Rattle.capture_format.specs.declared.Stage.{Stage}
 use Rattle.capture_format.specs.declared.Stage.TheVariants as stage
 use Rattle.capture_format.specs.declared.Parsed.{Parsed}
@@ -32,9 +30,9 @@ known_of (whole h xs) = resume.known h (length xs) (take 64 xs)
 known_of (broken place) = resume.broken place
 
 -- what a finished reader says, with the sizes in their room
-abbrev pub told_by : Captured → List Float → Known
-told_by (Whole h n) room = resume.known h n (take n room)
-told_by (captured.Broken place) room = resume.broken place
+abbrev pub told_by : Finished → List Float → Known
+told_by (Ok said) room = resume.known said.head said.items (take said.items room)
+told_by (Err at) room = resume.broken at.0
 
 -- ---- at the start
 

@@ -2,19 +2,20 @@
 -- proofs/ says that it finds what the plain reading of crate capture_format finds, the head as it was written. Assumes
 -- nothing.
 use Rattle.std.specs.Prelude.{◌≡◌, ◌⊎◌, cond, List, [], ◌∷◌, ℕ, ◌+◌, ◌≤◌, ◌^◌, ltb, length, take, set, replicate, Float}
+use Rattle.std.specs.Prelude.{Result, Ok, Err}
 use Rattle.std.specs.Float.{binary32}
 use Rattle.std.specs.Float.Ieee.{of_bits}
 use Rattle.keywords.specs.declared.AvailableSpace.TheVariants.{MaxContent}
 use Rattle.capture_format.specs.Parts.{front}
 use Rattle.capture_feed.specs.declared.Reader.{Reader}
 use Rattle.capture_feed.specs.declared.Captured.{Captured}
-use Rattle.capture_feed.specs.declared.Captured.TheVariants.{Whole}
-use Rattle.capture_feed.specs.declared.Captured.TheVariants as captured
+use Rattle.capture_format.specs.declared.BrokenAt.{BrokenAt}
+use Rattle.capture_format.specs.declared.Head.{Head}
 use Rattle.capture_format.specs.declared.Stage.{Stage}
 use Rattle.capture_format.specs.declared.Stage.TheVariants.{Items, Ended}
 use Rattle.capture_format.specs.declared.Stage.TheVariants as stage
 use Rattle.capture_format.specs.declared.Parsed.{Parsed}
-use Rattle.capture_format.specs.declared.Parsed.TheVariants.{Partial, Head, Item, End}
+use Rattle.capture_format.specs.declared.Parsed.TheVariants.{Partial, Item, End}
 use Rattle.capture_format.specs.declared.Parsed.TheVariants as parsed
 
 -- a reader, and the room for the sizes that it has read
@@ -43,7 +44,7 @@ advanced parsed.Broken r bytes = record {
   head = r.head;
   items = r.items;
 }
-advanced (Head h) r bytes = record {
+advanced (parsed.Head h) r bytes = record {
   stage = Items;
   place = r.place + 12;
   have = 0;
@@ -73,7 +74,7 @@ abbrev pub kept : Parsed → ℕ → List Float → List Float
 kept (Item x) i sizes = cond (ltb i 64) (set sizes i x) sizes
 kept Partial i sizes = sizes
 kept parsed.Broken i sizes = sizes
-kept (Head h) i sizes = sizes
+kept (parsed.Head h) i sizes = sizes
 kept End i sizes = sizes
 
 abbrev pub byte_fed : Fed → ℕ → Fed
@@ -98,14 +99,23 @@ started = record {
   items = 0;
 }
 
--- after the last
-abbrev pub by_stage : Stage → Reader → Captured
-by_stage Ended r = Whole r.head r.items
-by_stage stage.First r = captured.Broken r.place
-by_stage Items r = captured.Broken r.place
-by_stage stage.Broken r = captured.Broken r.place
+-- after the last: a whole capture's head and how many items it has, or where it breaks
+abbrev pub Finished : Type 0
+Finished = Result Captured BrokenAt
 
-abbrev pub finished : Reader → Captured
+abbrev pub whole_of : Head → ℕ → Finished
+whole_of head items = Ok (record { head = head; items = items })
+
+abbrev pub broken_at : ℕ → Finished
+broken_at place = Err (record { 0 = place })
+
+abbrev pub by_stage : Stage → Reader → Finished
+by_stage Ended r = whole_of r.head r.items
+by_stage stage.First r = broken_at r.place
+by_stage Items r = broken_at r.place
+by_stage stage.Broken r = broken_at r.place
+
+abbrev pub finished : Reader → Finished
 finished r = by_stage r.stage r
 
 -- what holds of every reader that comes from `start` and `feed`: between records, or within one that its bytes so far

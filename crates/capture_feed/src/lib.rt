@@ -5,7 +5,7 @@ ghost use Rattle.std.specs.Prelude.{◌≡◌, ◌+◌, ◌≤◌, ◌^◌, leng
 ghost use Rattle.capture_feed.specs.Machine.{with_sizes, advanced, kept, byte_fed, fed, started, finished};
 ghost use Rattle.capture_feed.specs.Machine.{ReaderReady};
 
-use capture_format::{Head, Parsed, Stage, parse};
+use capture_format::{BrokenAt, Head, Parsed, Stage, parse};
 use keywords::AvailableSpace;
 
 // Where the reading of a capture stands between two bytes. It comes from `start` and `feed` alone.
@@ -23,139 +23,109 @@ pub struct Reader {
     pub items: usize,
 }
 
-// What a capture says, once its last byte was fed.
+// What a capture says, once its last byte was fed: its head as it was written, and how many items it has.
 #[derive(Clone, Copy)]
-pub enum Captured {
-    Whole { head: Head, items: usize },
-    // The offset where the faulty record starts. A record that the capture's end cuts is faulty, and so is a missing
-    // one.
-    Broken(u64),
-}
-
-pub fn start() -> Reader
-    ensures { result ≡ started }
-{
-    Reader {
-        stage: Stage::First,
-        place: 0,
-        have: 0,
-        pending: [0; 12],
-        head: Head {
-            limit: AvailableSpace::MaxContent,
-            gap: 0.0,
-            minimum: 0,
-        },
-        items: 0,
-    }
-}
-
-fn advance(r: Reader, bytes: [u8; 12], found: Parsed) -> Reader
-    requires { (r.place ≤ 2 ^ 63) × (r.have ≤ 12) × (r.items ≤ r.place) }
-    ensures { result ≡ advanced found r bytes }
-{
-    let stage = r.stage;
-    let head = r.head;
-    match found {
-        Parsed::Partial => Reader {
-            stage,
-            place: r.place,
-            have: r.have + 1,
-            pending: bytes,
-            head,
-            items: r.items,
-        },
-        Parsed::Broken => Reader {
-            stage: Stage::Broken,
-            place: r.place,
-            have: 0,
-            pending: bytes,
-            head,
-            items: r.items,
-        },
-        Parsed::Head(h) => Reader {
-            stage: Stage::Items,
-            place: r.place + 12,
-            have: 0,
-            pending: bytes,
-            head: h,
-            items: r.items,
-        },
-        Parsed::Item(_) => Reader {
-            stage: Stage::Items,
-            place: r.place + 5,
-            have: 0,
-            pending: bytes,
-            head,
-            items: r.items + 1,
-        },
-        Parsed::End => Reader {
-            stage: Stage::Ended,
-            place: r.place + 1,
-            have: 0,
-            pending: bytes,
-            head,
-            items: r.items,
-        },
-    }
+pub struct Captured {
+    pub head: Head,
+    pub items: usize,
 }
 
 fn keep(found: Parsed, item: usize, sizes: &mut [f32; 64])
     ensures { sizes.new ≡ kept found item sizes.old }
 {
-    match found {
-        Parsed::Item(x) => {
-            if item < 64 {
-                sizes[item] = x;
-            }
+    if let Parsed::Item(size) = found {
+        if item < 64 {
+            sizes[item] = size;
         }
-        Parsed::Partial => {}
-        Parsed::Broken => {}
-        Parsed::Head(_) => {}
-        Parsed::End => {}
     }
 }
 
-fn step(r: Reader, byte: u8, sizes: &mut [f32; 64]) -> Reader
-    requires { ReaderReady r 1 }
-    ensures { with_sizes result sizes.new ≡ byte_fed (with_sizes r sizes.old) byte }
-{
-    let have = r.have;
-    let stage = r.stage;
-    let mut pending = r.pending;
-    pending[have] = byte;
-    let found = parse(stage, &pending[..have + 1]);
-    keep(found, r.items, sizes);
-    advance(r, pending, found)
-}
-
-// Takes the next bytes of a capture. What bursts they come in makes no difference. It asks for a reader that came from
-// `start` and `feed`, and is no entry point.
-pub fn feed(from: Reader, burst: &[u8], sizes: &mut [f32; 64]) -> Reader
-    requires { ReaderReady from (length burst.now) }
-    ensures { with_sizes result sizes.new ≡ fed (with_sizes from sizes.old)
-        burst.now }
-{
-    let mut r = from;
-    let mut i = 0;
-    while i < burst.len() {
-        r = step(r, burst[i], sizes);
-        i += 1;
+impl Reader {
+    pub fn start() -> Reader
+        ensures { result ≡ started }
+    {
+        Reader {
+            stage: Stage::First,
+            place: 0,
+            have: 0,
+            pending: [0; 12],
+            head: Head {
+                limit: AvailableSpace::MaxContent,
+                gap: 0.0,
+                minimum: 0,
+            },
+            items: 0,
+        }
     }
-    r
-}
 
-pub fn finish(r: Reader) -> Captured
-    ensures { result ≡ finished r }
-{
-    let stage = r.stage;
-    let head = r.head;
-    match stage {
-        Stage::Ended => Captured::Whole {
-            head,
-            items: r.items,
-        },
-        Stage::First => Captured::Broken(r.place),
-        Stage::Items => Captured::Broken(r.place),
-        Stage::Broken => Captured::Broken(r.place),
+    fn advance(self, found: Parsed) -> Reader
+        requires { (self.place ≤ 2 ^ 63) × (self.have ≤ 12) × (self.items ≤ self.place) }
+        ensures { result ≡ advanced found self self.pending }
+    {
+        match found {
+            Parsed::Partial => Reader {
+                have: self.have + 1,
+                ..self
+            },
+            Parsed::Broken => Reader {
+                stage: Stage::Broken,
+                have: 0,
+                ..self
+            },
+            Parsed::Head(head) => Reader {
+                stage: Stage::Items,
+                place: self.place + 12,
+                have: 0,
+                head,
+                ..self
+            },
+            Parsed::Item(_) => Reader {
+                stage: Stage::Items,
+                place: self.place + 5,
+                have: 0,
+                items: self.items + 1,
+                ..self
+            },
+            Parsed::End => Reader {
+                stage: Stage::Ended,
+                place: self.place + 1,
+                have: 0,
+                ..self
+            },
+        }
+    }
+
+    #[tactic(auto, using(crate::proofs::Sound::within))]
+    fn step(&mut self, byte: u8, sizes: &mut [f32; 64])
+        requires { ReaderReady self.old 1 }
+        ensures { with_sizes self.new sizes.new ≡ byte_fed (with_sizes self.old sizes.old) byte }
+    {
+        self.pending[self.have] = byte;
+        let found = parse(self.stage, &self.pending[..self.have + 1]);
+        keep(found, self.items, sizes);
+        *self = self.advance(found);
+    }
+
+    // Takes the next bytes of a capture. What bursts they come in makes no difference. It asks for a reader that came
+    // from `start` and `feed`, and is no entry point.
+    pub fn feed(&mut self, burst: &[u8], sizes: &mut [f32; 64])
+        requires { ReaderReady self.old (length burst.now) }
+        ensures { with_sizes self.new sizes.new ≡ fed (with_sizes self.old sizes.old) burst.now }
+    {
+        for &byte in burst {
+            self.step(byte, sizes);
+        }
+    }
+
+    pub fn finish(self) -> Result<Captured, BrokenAt>
+        ensures { result ≡ finished self }
+    {
+        match self.stage {
+            Stage::Ended => Ok(Captured {
+                head: self.head,
+                items: self.items,
+            }),
+            Stage::First | Stage::Items | Stage::Broken => Err(BrokenAt(self.place)),
+        }
     }
 }

@@ -1,4 +1,3 @@
-pub mod Nan
 pub mod Front
 pub mod Items
 pub mod Format

@@ -3,13 +3,12 @@
 #![tactic(auto)]
 
 ghost use Rattle.std.specs.Prelude.{◌≡◌, ◌+◌, ◌≤◌, ◌<◌, length};
-ghost use Rattle.std.specs.Float.{binary32};
-ghost use Rattle.std.specs.Float.Ieee.{of_bits};
 ghost use Rattle.capture_format.specs.Format.{half_at, word, float_at, head_of, first_front, later_front};
 ghost use Rattle.capture_format.specs.Reading.{one_each, as_read};
 ghost use Rattle.capture_format.specs.Parts.{front};
 
 use keywords::{AvailableSpace, space_of};
+use std::num::f32_from_bits_with_nan;
 
 // A record of kind 1: what the items are broken by.
 #[derive(Clone, Copy)]
@@ -18,6 +17,11 @@ pub struct Head {
     pub gap: f32,
     pub minimum: u32,
 }
+
+// A capture that breaks: the offset where the faulty record starts. A record that the capture's end cuts is faulty, and
+// so is a missing one.
+#[derive(Clone, Copy)]
+pub struct BrokenAt(pub u64);
 
 // Which records may stand next.
 #[derive(Clone, Copy)]
@@ -41,50 +45,40 @@ pub enum Parsed {
     End,
 }
 
-fn half_at(bytes: &[u8], at: usize) -> u32
+fn half_at(bytes: &[u8], at: usize) -> u16
     requires { at + 2 ≤ length bytes.now }
-    ensures { (result ≡ half_at bytes.now at) × (result < 65536) }
+    ensures { result ≡ half_at bytes.now at }
 {
-    bytes[at] as u32 + 256 * (bytes[at + 1] as u32)
+    u16::from_le_bytes([bytes[at], bytes[at + 1]])
 }
 
 fn word_at(bytes: &[u8], at: usize) -> u32
     requires { at + 4 ≤ length bytes.now }
     ensures { result ≡ word bytes.now at }
 {
-    half_at(bytes, at) + 65536 * half_at(bytes, at + 2)
+    u32::from_le_bytes([bytes[at], bytes[at + 1], bytes[at + 2], bytes[at + 3]])
 }
 
-// The float of a bit pattern. `from_bits` leaves open which NaN it gives, and all are one to the checks.
-fn float_of(bits: u32) -> f32
-    ensures { result ≡ of_bits binary32 bits }
-{
-    if 0x7f80_0000 < bits % 0x8000_0000 {
-        0.0 / 0.0
-    } else {
-        f32::from_bits(bits)
-    }
-}
-
+// Every NaN reads as one, and all are one to the checks.
 fn float_at(bytes: &[u8], at: usize) -> f32
     requires { at + 4 ≤ length bytes.now }
     ensures { result ≡ float_at bytes.now at }
 {
-    float_of(word_at(bytes, at))
+    f32_from_bits_with_nan(word_at(bytes, at))
 }
 
 fn head_of(bytes: &[u8]) -> Head
     requires { 12 ≤ length bytes.now }
     ensures { result ≡ head_of bytes.now }
 {
-    let limit = space_of(bytes[1] as u32, float_at(bytes, 2));
     Head {
-        limit,
+        limit: space_of(u32::from(bytes[1]), float_at(bytes, 2)),
         gap: float_at(bytes, 6),
-        minimum: half_at(bytes, 10),
+        minimum: u32::from(half_at(bytes, 10)),
     }
 }
 
+#[tactic(auto, unfolding(crate::specs::Format::first_front))]
 fn parse_first(bytes: &[u8]) -> Parsed
     requires { 0 < length bytes.now }
     ensures { result ≡ first_front bytes.now }
@@ -104,20 +98,20 @@ fn parse_first(bytes: &[u8]) -> Parsed
     Parsed::Head(head_of(bytes))
 }
 
+#[tactic(auto, unfolding(crate::specs::Format::later_front))]
 fn parse_later(bytes: &[u8]) -> Parsed
     requires { 0 < length bytes.now }
     ensures { result ≡ later_front bytes.now }
 {
-    if bytes[0] == 2 {
-        if bytes.len() < 5 {
-            return Parsed::Partial;
+    match bytes[0] {
+        2 => {
+            if bytes.len() < 5 {
+                return Parsed::Partial;
+            }
+            Parsed::Item(float_at(bytes, 1))
         }
-        return Parsed::Item(float_at(bytes, 1));
-    }
-    if bytes[0] == 3 {
-        Parsed::End
-    } else {
-        Parsed::Broken
+        3 => Parsed::End,
+        _ => Parsed::Broken,
     }
 }
 
@@ -129,8 +123,7 @@ pub fn parse(stage: Stage, bytes: &[u8]) -> Parsed
     match stage {
         Stage::First => parse_first(bytes),
         Stage::Items => parse_later(bytes),
-        Stage::Ended => Parsed::Broken,
-        Stage::Broken => Parsed::Broken,
+        Stage::Ended | Stage::Broken => Parsed::Broken,
     }
 }
 
@@ -150,10 +143,8 @@ fn one_each(gap: f32) -> Head
 pub fn as_read(head: Head) -> Head
     ensures { result ≡ as_read head }
 {
-    let limit = head.limit;
-    match limit {
+    match head.limit {
         AvailableSpace::MinContent => one_each(head.gap),
-        AvailableSpace::MaxContent => head,
-        AvailableSpace::Definite(_) => head,
+        AvailableSpace::MaxContent | AvailableSpace::Definite(_) => head,
     }
 }

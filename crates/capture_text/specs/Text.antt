@@ -1,8 +1,9 @@
 -- Document 01, "Records for the program": what the program prints, as bytes. Assumes nothing.
 use Rattle.std.specs.Prelude.{cond, List, [], ◌∷◌, ◌++◌, ℕ, zero, suc, ◌+◌, ◌/◌, ◌%◌, ltb, take}
+use Rattle.std.specs.Prelude.{Result, Ok, Err}
 use Rattle.checks.specs.Domain.{Where, nowhere, at_container, at_item, Paper, refused_as, refusal_of}
-use Rattle.capture_text.specs.declared.Reply.{Reply}
-use Rattle.capture_text.specs.declared.Reply.TheVariants.{Lines, Refused, Broken}
+use Rattle.capture_text.specs.declared.Fault.{Fault}
+use Rattle.capture_text.specs.declared.Fault.TheVariants.{Refused, Broken}
 
 -- a number in decimal, in at most so many places
 unfoldable pub decimal_to : ℕ → ℕ → List ℕ
@@ -52,13 +53,22 @@ title_text p = (answer_word ++ ((48 + p.number) ∷ 10 ∷ lines_word)) ++ (deci
 abbrev pub lines_text : Paper → List ℕ → List ℕ
 lines_text p counts = title_text p ++ (spaced (take p.lines counts) ++ (10 ∷ []))
 
+-- the answer to a capture: how many lines it has, or why it has none
+abbrev pub Reply : Type 0
+Reply = Result ℕ Fault
+
 -- the paper's values: the place of answer 7 is a byte offset
+abbrev pub accepted : ℕ → Paper
+accepted lines = record { number = 0; place = nowhere; lines = lines; rounds = 0 }
+
+abbrev pub fault_paper : Fault → Paper
+fault_paper (Refused why) = refusal_of why
+fault_paper (Broken offset) = refused_as 7 (at_item offset)
+
 abbrev pub reply_paper : Reply → Paper
-reply_paper (Lines k) = record { number = 0; place = nowhere; lines = k; rounds = 0 }
-reply_paper (Refused why) = refusal_of why
-reply_paper (Broken offset) = refused_as 7 (at_item offset)
+reply_paper (Ok lines) = accepted lines
+reply_paper (Err fault) = fault_paper fault
 
 abbrev pub text_of : Reply → List ℕ → List ℕ
-text_of (Lines k) counts = lines_text (reply_paper (Lines k)) counts
-text_of (Refused why) counts = refusal_text (reply_paper (Refused why))
-text_of (Broken offset) counts = refusal_text (reply_paper (Broken offset))
+text_of (Ok lines) counts = lines_text (accepted lines) counts
+text_of (Err fault) counts = refusal_text (fault_paper fault)

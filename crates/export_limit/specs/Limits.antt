@@ -7,30 +7,17 @@ use Rattle.checks.specs.Domain.{Number, code, refusal_of}
 use Rattle.keywords.specs.declared.AvailableSpace.{AvailableSpace}
 use Rattle.keywords.specs.declared.AvailableSpace.TheVariants.{Definite, MinContent, MaxContent}
 use Rattle.break_limit.specs.declared.Query.{Query}
-use Rattle.break_limit.specs.declared.BreakLimit.{BreakLimit}
-use Rattle.break_limit.specs.declared.BreakLimit.TheVariants.{Limit}
-use Rattle.break_limit.specs.declared.BreakLimit.TheVariants as limit
 use Rattle.keywords.specs.Space.{space_of, bound_of}
-use Rattle.break_limit.specs.Limit.{limit_verdict, limit_from}
+use Rattle.break_limit.specs.Limit.{BreakLimit, limit_verdict, limit_from}
 use Rattle.export_answer.specs.declared.CAnswer.{CAnswer}
 use Rattle.export_answer.specs.Crossing.{crossed}
 use Rattle.export_limit.specs.declared.CLimit.{CLimit}
+use Rattle.export_limit.specs.declared.Asked.{Asked}
+use Rattle.std.specs.declared.result.Result.TheVariants.{Ok, Err}
 
 -- a flag is 0 or 1
 abbrev pub flag : ℕ → Bool
 flag c = eqb c 1
-
--- what C hands over, in its order
-pub record Asked : Type 0 where
-  pub known : ℕ
-  pub main : ℕ
-  pub row : ℕ
-  pub kind : ℕ
-  pub available : Float
-  pub has_minimum : ℕ
-  pub minimum : Float
-  pub has_maximum : ℕ
-  pub maximum : Float
 
 abbrev pub asked_codes : Asked → List Number
 asked_codes a = code 1 a.known ∷ (code 1 a.main ∷ (code 1 a.row ∷
@@ -57,8 +44,11 @@ abbrev pub c_refused : CAnswer → CLimit
 c_refused r = record { number = r.number; at = r.at; place = r.place; kind = 3; limit = of_bits binary32 0 }
 
 abbrev pub c_limit : BreakLimit → CLimit
-c_limit (Limit space) = c_space space
-c_limit (limit.Refused why) = c_refused (crossed (refusal_of why))
+c_limit (Ok space) = c_space space
+c_limit (Err why) = c_refused (crossed (refusal_of why))
+
+abbrev pub answered : Asked → BreakLimit
+answered a = limit_from (limit_verdict (asked_codes a) (query_of a)) (query_of a)
 
 abbrev pub limit_from_c : Asked → CLimit
-limit_from_c a = c_limit (limit_from (limit_verdict (asked_codes a) (query_of a)) (query_of a))
+limit_from_c a = c_limit (answered a)

@@ -2,14 +2,16 @@
 // code that names nothing is refusal 5. The call takes any bits; all else is inside.
 #![tactic(auto)]
 
-ghost use Rattle.std.specs.Prelude.{◌≡◌, Float};
-ghost use Rattle.break_limit.specs.Limit.{limit_from};
+ghost use Rattle.std.specs.Prelude.{◌≡◌};
+ghost use Rattle.checks.specs.Domain.{refusal_of};
 ghost use Rattle.checks.specs.Marks.{least_of};
-ghost use Rattle.export_limit.specs.Limits.{c_space, c_refused, c_limit, asked_codes, limit_from_c};
+ghost use Rattle.export_answer.specs.Crossing.{crossed};
+ghost use Rattle.export_limit.specs.Limits.{c_space, c_refused, c_limit, asked_codes, query_of, answered, limit_from_c};
 
 use break_limit::Query;
-use checks::{Mark, Verdict};
-use export_answer::{CAnswer, refusal_to_c};
+use checks::{Mark, Refusal, least};
+use checks_number::mark_code;
+use export_answer::CAnswer;
 use keywords::{AvailableSpace, bound_of, space_of};
 
 // A break limit: number and place as in every answer, then its kind (0 definite, 1 min-content, 2 max-content, 3 none:
@@ -24,91 +26,104 @@ pub struct CLimit {
     pub limit: f32,
 }
 
-fn space_to_c(space: AvailableSpace) -> CLimit
-    ensures { result ≡ c_space space }
-{
-    match space {
-        AvailableSpace::Definite(x) => CLimit {
+impl From<AvailableSpace> for CLimit {
+    ghost from_gives = { λ space limit. limit ≡ c_space space };
+
+    fn from(space: AvailableSpace) -> CLimit {
+        let (kind, limit) = match space {
+            AvailableSpace::Definite(x) => (0, x),
+            AvailableSpace::MinContent => (1, 0.0),
+            AvailableSpace::MaxContent => (2, 0.0),
+        };
+        CLimit {
             number: 0,
             at: 0,
             place: 0,
-            kind: 0,
-            limit: x,
-        },
-        AvailableSpace::MinContent => CLimit {
-            number: 0,
-            at: 0,
-            place: 0,
-            kind: 1,
-            limit: 0.0,
-        },
-        AvailableSpace::MaxContent => CLimit {
-            number: 0,
-            at: 0,
-            place: 0,
-            kind: 2,
-            limit: 0.0,
-        },
+            kind,
+            limit,
+        }
     }
 }
 
 // A refused limit that a host hands on unread must be refused again: its kind names none.
-fn no_limit(r: CAnswer) -> CLimit
-    ensures { result ≡ c_refused r }
-{
-    CLimit {
-        number: r.number,
-        at: r.at,
-        place: r.place,
-        kind: 3,
-        limit: 0.0,
+impl From<Refusal> for CLimit {
+    ghost from_gives = { λ why limit. limit ≡ c_refused (crossed (refusal_of why)) };
+
+    fn from(why: Refusal) -> CLimit {
+        let told = CAnswer::from(why);
+        CLimit {
+            number: told.number,
+            at: told.at,
+            place: told.place,
+            kind: 3,
+            limit: 0.0,
+        }
     }
 }
 
-// The mark of the codes of a break limit, all of them the container's.
-fn mark_codes(
+impl From<Result<AvailableSpace, Refusal>> for CLimit {
+    ghost from_gives = { λ told limit. limit ≡ c_limit told };
+
+    fn from(told: Result<AvailableSpace, Refusal>) -> CLimit {
+        match told {
+            Ok(space) => space.into(),
+            Err(why) => why.into(),
+        }
+    }
+}
+
+// What C hands over, in its order.
+#[derive(Clone, Copy)]
+struct Asked {
     known: u32,
     main: u32,
     row: u32,
     kind: u32,
+    available: f32,
     has_minimum: u32,
+    minimum: f32,
     has_maximum: u32,
-) -> Mark
-    ensures { (x y z : Float) → result.0 ≡ least_of (asked_codes (record {
-      known = known;
-      main = main;
-      row = row;
-      kind = kind;
-      available = x;
-      has_minimum = has_minimum;
-      minimum = y;
-      has_maximum = has_maximum;
-      maximum = z;
-    })) 0 }
-{
-    let flags = checks::least(
-        checks_number::mark_code(1, known, 0),
-        checks::least(
-            checks_number::mark_code(1, main, 0),
-            checks_number::mark_code(1, row, 0),
-        ),
-    );
-    let kinds = checks::least(
-        checks_number::mark_code(2, kind, 0),
-        checks::least(
-            checks_number::mark_code(1, has_minimum, 0),
-            checks_number::mark_code(1, has_maximum, 0),
-        ),
-    );
-    checks::least(flags, kinds)
+    maximum: f32,
 }
 
-fn limit_to_c(v: Verdict, q: Query) -> CLimit
-    ensures { result ≡ c_limit (limit_from v q) }
-{
-    match v {
-        Verdict::Refused(why) => no_limit(refusal_to_c(why)),
-        Verdict::Passed => space_to_c(break_limit::limit_of(q)),
+impl Asked {
+    // The mark of its codes, all of them the container's.
+    fn mark(self) -> Mark
+        ensures { result.0 ≡ least_of (asked_codes self) 0 }
+    {
+        let flags = least(
+            mark_code(1, self.known, 0),
+            least(mark_code(1, self.main, 0), mark_code(1, self.row, 0)),
+        );
+        let kinds = least(
+            mark_code(2, self.kind, 0),
+            least(
+                mark_code(1, self.has_minimum, 0),
+                mark_code(1, self.has_maximum, 0),
+            ),
+        );
+        least(flags, kinds)
+    }
+
+    fn query(self) -> Query
+        ensures { result ≡ query_of self }
+    {
+        Query {
+            known_is_definite: self.known == 1,
+            main_is_definite: self.main == 1,
+            is_row: self.row == 1,
+            available: space_of(self.kind, self.available),
+            minimum: bound_of(self.has_minimum, self.minimum),
+            maximum: bound_of(self.has_maximum, self.maximum),
+        }
+    }
+
+    fn answer(self) -> Result<AvailableSpace, Refusal>
+        ensures { result ≡ answered self }
+    {
+        let query = self.query();
+        break_limit::check_limit(self.mark(), query)?;
+        Ok(break_limit::limit_of(query))
     }
 }
 
@@ -136,17 +151,16 @@ pub extern "C" fn fratolivem_break_limit(
       maximum = maximum;
     }) }
 {
-    let codes = mark_codes(known, main, row, kind, has_minimum, has_maximum);
-    let space = space_of(kind, available);
-    let least = bound_of(has_minimum, minimum);
-    let most = bound_of(has_maximum, maximum);
-    let q = Query {
-        known_is_definite: known == 1,
-        main_is_definite: main == 1,
-        is_row: row == 1,
-        available: space,
-        minimum: least,
-        maximum: most,
+    let asked = Asked {
+        known,
+        main,
+        row,
+        kind,
+        available,
+        has_minimum,
+        minimum,
+        has_maximum,
+        maximum,
     };
-    limit_to_c(break_limit::check_limit(codes, q), q)
+    asked.answer().into()
 }

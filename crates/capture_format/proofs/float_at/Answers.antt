@@ -1,7 +1,0 @@
--- `capture_format::float_at` meets its contract. Assumes nothing.
-use mathlib.Core.Path.{◌∙◌, ap}
-use lib.Ieee.{binary32, of_bits}
-use Rattle.capture_format.proofs.float_at.Goals as goal
-
-pub returns : goal.returns
-returns c = c.float_of.ensures ∙ ap (of_bits binary32) c.word_at.ensures
