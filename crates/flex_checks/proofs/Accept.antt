@@ -11,16 +11,14 @@ use lib.IntN.{pos, neg_ℤ, nat_abs}
 use lib.Ieee.{Float, nan, inf, fin, up, down, of_bits}
 use Rattle.grid.specs.Grid.{on_grid, sixty_fourths, cleaned}
 use Rattle.grid.specs.Values.{Length}
-use Rattle.checks.specs.Domain.{Input, float, code, checked, then}
+use Rattle.checks.specs.Domain.{Input, float, code, Verdict, checked, then}
 use Rattle.checks.specs.Lists.{beside_at}
 use Rattle.checks.specs.Optional.{optional}
 use Rattle.checks.specs.Marks.{least_mark, judged, AllFine, SoundInput}
 use Rattle.checks.specs.declared.Kind.TheVariants.{Size}
 use Rattle.checks.specs.declared.Kind.TheVariants as kind
 use Rattle.checks.specs.declared.Refusal.{Refusal}
-use Rattle.checks.specs.declared.Verdict.{Verdict}
-use Rattle.checks.specs.declared.Verdict.TheVariants.{Passed}
-use Rattle.checks.specs.declared.Verdict.TheVariants as verdict
+use Rattle.std.specs.declared.result.Result.TheVariants.{Ok, Err}
 use Rattle.checks.proofs.Checks.{judged-checked, then_passed, fine-append, fine_size, fine-margin}
 use Rattle.checks.proofs.Marked.{shaped}
 use Rattle.grid.specs.Floats.{nought}
@@ -35,7 +33,7 @@ abbrev others : Lists → List ℕ
 others ls =
     length ls.minimum ∷ length ls.maximum ∷ length ls.has_maximum ∷ length ls.edges ∷ length ls.grow ∷ length ls.shrink ∷ length ls.start ∷ length ls.end ∷ length ls.auto_start ∷ length ls.auto_end ∷ []
 
-pub even_of : (ls : Lists) (room : ℕ) → flex_shape ls room ≡ Passed → Even ls × (count ls ≤ room)
+pub even_of : (ls : Lists) (room : ℕ) → flex_shape ls room ≡ Ok tt → Even ls × (count ls ≤ room)
 even_of ls room h =
     let p = shaped (count ls) (others ls) (room ∷ []) h in
     let a = p.1 in (
@@ -128,12 +126,12 @@ module _ (inner gap : Float) (ls : Lists) (s : SoundInput (input_of inner gap ls
 -- ---- the verdict, from checks 1 to 5 and check 6
 
 -- where one of checks 1 to 5 refuses, the call does
-pub refused_then : (lengths : Verdict) (input : Input) (rest : Verdict) (why : Refusal) → (lengths ≡ Passed → input.count ≤ 1024) → then lengths (judged (least_mark input)) ≡ verdict.Refused why → then lengths (checked input rest) ≡ verdict.Refused why
-refused_then (verdict.Refused w) input rest why f h = h
-refused_then Passed input rest why f h = sym (judged-checked input (f refl) rest) ∙ ap (λ (v : Verdict). then v rest) h
+pub refused_then : (lengths : Verdict) (input : Input) (rest : Verdict) (why : Refusal) → (lengths ≡ Ok tt → input.count ≤ 1024) → then lengths (judged (least_mark input)) ≡ Err why → then lengths (checked input rest) ≡ Err why
+refused_then (Err w) input rest why f h = h
+refused_then (Ok tt) input rest why f h = sym (judged-checked input (f refl) rest) ∙ ap (λ (v : Verdict). then v rest) h
 
 -- and else check 6 decides
-pub passed_then : (lengths : Verdict) (input : Input) (rest : Verdict) → (lengths ≡ Passed → input.count ≤ 1024) → then lengths (judged (least_mark input)) ≡ Passed → then lengths (checked input rest) ≡ rest
+pub passed_then : (lengths : Verdict) (input : Input) (rest : Verdict) → (lengths ≡ Ok tt → input.count ≤ 1024) → then lengths (judged (least_mark input)) ≡ Ok tt → then lengths (checked input rest) ≡ rest
 passed_then lengths input rest f h =
     let p = then_passed lengths (judged (least_mark input)) h in
     ap (λ (v : Verdict). then v (checked input rest)) p.0 ∙ sym (judged-checked input (f p.0) rest) ∙ ap (λ (v : Verdict). then v rest) p.1

@@ -6,9 +6,9 @@ use Prim.Native.Nat.{ℕ, ◌+◌, ◌≤◌, ◌<◌, min, zero-le}
 use native.Mathlib.Omega.{arith}
 use lib.ListN.{length, get_or}
 use lib.Ieee.{Float}
-use Rattle.checks.specs.Domain.{Number, code, shape}
+use Rattle.checks.specs.Domain.{Number, shape}
 use Rattle.checks.specs.Marks.{mark, least_of, least_up_to, least_mark, Fine}
-use Rattle.checks.specs.declared.Verdict.TheVariants.{Passed}
+use Rattle.std.specs.declared.result.Result.TheVariants.{Ok}
 use Rattle.checks.proofs.Checks.{then_passed, shape_passed, fine_code, least_append, least_one}
 use Rattle.flex.specs.Items.{Lists, count}
 use Rattle.flex_checks.specs.Input.{input_of, flex_shape}
@@ -19,9 +19,6 @@ use Rattle.flex_checks.specs.Counts.{lines_shape, division, lines_input}
 use Rattle.flex_checks.proofs.Accept.{even_of}
 
 -- ---- the division as a number
-
-pub mark_is : (counts : List ℕ) (n c m : ℕ) (b : Bool) → divides counts n ≡ b → cond b 0 1 ≡ c → m ≡ mark (code 0 c) 0 → m ≡ mark (division counts n) 0
-mark_is counts n c m b e k h = h ∙ ap (λ (x : ℕ). mark (code 0 x) 0) (sym (ap (λ (t : Bool). cond t 0 1) e ∙ k))
 
 fits : (b : Bool) → cond b 0 1 ≤ 0 → b ≡ true
 fits true h = refl
@@ -44,7 +41,7 @@ module _ (inner gap : Float) (counts : List ℕ) (ls : Lists) where
       swap : (a b c : ℕ) → min (min a b) c ≡ min (min a c) b
       swap a b c = omega arith
 
-pub shape_of : (counts : List ℕ) (ls : Lists) (room : ℕ) → lines_shape counts ls room ≡ Passed → (length counts ≤ 1024) × Even ls × (count ls ≤ room)
+pub shape_of : (counts : List ℕ) (ls : Lists) (room : ℕ) → lines_shape counts ls room ≡ Ok tt → (length counts ≤ 1024) × Even ls × (count ls ≤ room)
 shape_of counts ls room h =
     let p = then_passed (shape (length counts) true) (flex_shape ls room) h in
     let e = even_of ls room p.1 in

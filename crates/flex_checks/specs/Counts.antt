@@ -1,9 +1,8 @@
 -- What a call over many lines takes beside what a call for one does: the counts, a list of the items that each line
 -- has. Assumes nothing.
 use Rattle.std.specs.Prelude.{true, cond, List, [], ◌∷◌, ℕ, length, Float}
-use Rattle.checks.specs.Domain.{Number, float, code, Input, shape, then}
+use Rattle.checks.specs.Domain.{Number, float, code, Input, Verdict, shape, then}
 use Rattle.checks.specs.declared.Kind.TheVariants.{Size}
-use Rattle.checks.specs.declared.Verdict.{Verdict}
 use Rattle.flex.specs.Items.{Lists, count}
 use Rattle.lists.specs.ByLine.{divides}
 use Rattle.flex_checks.specs.Input.{flex_shape, input_of}

@@ -2,11 +2,10 @@
 -- Assumes nothing.
 use Rattle.std.specs.Prelude.{List, [], ◌∷◌, ◌++◌, ℕ, length, get_or, Float}
 use Rattle.std.specs.Float.{nan}
-use Rattle.checks.specs.Domain.{Number, float, Input}
+use Rattle.checks.specs.Domain.{Number, float, Input, Verdict}
 use Rattle.checks.specs.Lists.{beside_at}
 use Rattle.checks.specs.Shapes as shapes
 use Rattle.checks.specs.declared.Kind.TheVariants.{Size, Margin, Factor}
-use Rattle.checks.specs.declared.Verdict.{Verdict}
 use Rattle.flex.specs.Items.{Lists, count}
 
 -- ---- checks 1 and 2
