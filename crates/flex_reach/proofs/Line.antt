@@ -21,7 +21,7 @@ use Rattle.checks.specs.Lists.{beside_at}
 use Rattle.checks.specs.Optional.{optional}
 use Rattle.checks.specs.Marks.{Fine, AllFine}
 use Rattle.checks.specs.declared.Kind.TheVariants as kind
-use Rattle.checks.specs.declared.Verdict.TheVariants.{Passed}
+use Rattle.std.specs.declared.result.Result.TheVariants.{Ok}
 use Rattle.checks.proofs.Checks.{accepted, then_passed, summed_passed, fine-append, fine-factor, T_of}
 use Rattle.flex.specs.declared.Item.{Item}
 use Rattle.flex.specs.declared.Line.{Line}
@@ -30,9 +30,8 @@ use Rattle.grid.specs.Floats.{nought}
 use Rattle.flex.specs.Flex.{Cell, after, round, begun, start_cell, grows, line_of, targets, outer_sum}
 use Rattle.flex.specs.Items.{Lists, count, item_at, items_of}
 use Rattle.lists.proofs.Each.{length-each}
-use Rattle.flex_line_call.specs.declared.FlexAnswer.TheVariants.{Done}
 use Rattle.flex_checks.specs.Input.{flex_shape, plain_at, input_of}
-use Rattle.flex_line_call.specs.Call.{line_verdict, FlexedLine}
+use Rattle.flex_line_call.specs.Call.{flexed, line_verdict, FlexedLine}
 use Rattle.flex_checks.proofs.Accept.{even_of}
 use Rattle.flex_reach.specs.Reach.{IsSize, IsMargin, IsFactor, IsItem, IsLine, Each, HandedOn}
 use Rattle.flex_reach.proofs.Reach.{reach}
@@ -171,7 +170,7 @@ module _ (inner gap : Float) (ls : Lists) (grow : Singles ls.grow (count ls)) (s
         end = margin_given (get_or ls.auto_end i 0) (get_or ls.end i nan) d.1;
       }
 
-  pub line_of_checks : Fine (float kind.Size inner) → Fine (float kind.Size gap) → ((i : ℕ) → i < count ls → AllFine ((input_of inner gap ls).item i)) → count ls ≤ 1024 → summed (outer_sum (cleaned gap) (items_of ls)) ≡ Passed
+  pub line_of_checks : Fine (float kind.Size inner) → Fine (float kind.Size gap) → ((i : ℕ) → i < count ls → AllFine ((input_of inner gap ls).item i)) → count ls ≤ 1024 → summed (outer_sum (cleaned gap) (items_of ls)) ≡ Ok tt
       → IsLine (cleaned inner) (cleaned gap) (items_of ls)
   line_of_checks i g s few sum = record {
     inner_is = size_read i;
@@ -181,7 +180,7 @@ module _ (inner gap : Float) (ls : Lists) (grow : Singles ls.grow (count ls)) (s
     sum = summed_passed (outer_sum (cleaned gap) (items_of ls)) sum;
   }
 
-  pub line_is : (room : ℕ) → line_verdict inner gap ls room ≡ Passed → IsLine (cleaned inner) (cleaned gap) (items_of ls)
+  pub line_is : (room : ℕ) → line_verdict inner gap ls room ≡ Ok tt → IsLine (cleaned inner) (cleaned gap) (items_of ls)
   unfolding line_verdict
   line_is room e =
       let p = then_passed (flex_shape ls room) (checked (input_of inner gap ls) (summed (outer_sum (cleaned gap) (items_of ls)))) e in
@@ -189,7 +188,7 @@ module _ (inner gap : Float) (ls : Lists) (grow : Singles ls.grow (count ls)) (s
       line_of_checks q.0.container.0 q.0.container.1.0 q.0.items (even_of ls room p.0).0.few q.1
 
   -- the targets that an accepted call writes are numbers that a later step takes
-  pub line_reach : (free : Sixtyfourths) (rounds : ℕ) (old new : List Float) → FlexedLine inner gap ls (Done free rounds) old new → (i : ℕ) → i < count ls → Fine (float kind.Worked (get_or new i nan))
+  pub line_reach : (free : Sixtyfourths) (rounds : ℕ) (old new : List Float) → FlexedLine inner gap ls (flexed free rounds) old new → (i : ℕ) → i < count ls → Fine (float kind.Worked (get_or new i nan))
   line_reach free rounds old new (passed, f) i h =
       let items = items_of ls in
       let ts = targets (cleaned inner) (cleaned gap) items rounds in
