@@ -7,11 +7,9 @@ use lib.ListN.{length, get_or}
 use lib.IntN.{ℤ}
 use lib.Ieee.{Float}
 use Rattle.grid.specs.Grid.{cleaned}
-use Rattle.checks.specs.Domain.{checked, summed}
+use Rattle.std.specs.declared.result.Result.TheVariants.{Ok, Err}
+use Rattle.checks.specs.Domain.{Answer, done, checked, summed}
 use Rattle.checks.proofs.Verdicts.{not_both, same_why}
-use Rattle.checks.specs.declared.Verdict.TheVariants.{Passed}
-use Rattle.checks.specs.declared.Answer.{Answer}
-use Rattle.checks.specs.declared.Answer.TheVariants.{Done, Refused}
 use Rattle.checks.proofs.Checks.{accepted, then_passed}
 use Rattle.flex.specs.declared.Item.{Item}
 use Rattle.flex.specs.Flex.{outer_sum}
@@ -32,7 +30,7 @@ same_items item item' s s' c c' es ec h = each_ext c (λ i. item (s + i)) (λ i.
 
 -- two accepted calls in the same container that agree on the range of line j and on its items, and on nothing else, say the same of it
 module _ (inner gap : Float) (ls ls' : Lists) (counts counts' : List ℕ) (k k' sum sum' : ℕ) (targets₀ targets₀' : List Float) (free₀ free₀' : List ℤ) (rounds₀ rounds₀' : List ℕ) (targets targets' : List Float) (free free' : List ℤ) (rounds rounds' : List ℕ) where
-  pub line_independent : FlexedByLine inner gap counts ls (Done k sum) targets₀ free₀ rounds₀ targets free rounds → FlexedByLine inner gap counts' ls' (Done k' sum') targets₀' free₀' rounds₀' targets' free' rounds'
+  pub line_independent : FlexedByLine inner gap counts ls (done k sum) targets₀ free₀ rounds₀ targets free rounds → FlexedByLine inner gap counts' ls' (done k' sum') targets₀' free₀' rounds₀' targets' free' rounds'
       → (j : ℕ) → j < length counts → j < length counts' → line_start counts j ≡ line_start counts' j → get_or counts j 0 ≡ get_or counts' j 0
       → ((i : ℕ) → i < get_or counts j 0 → item_at ls (line_start counts j + i) ≡ item_at ls' (line_start counts j + i))
       → SameFlexed counts counts' j j targets targets' free free' rounds rounds'
@@ -41,7 +39,7 @@ module _ (inner gap : Float) (ls ls' : Lists) (counts counts' : List ℕ) (k k' 
 -- ---- no choice
 
 -- accepted counts are those of the items
-whole_of : (inner gap : Float) (counts : List ℕ) (ls : Lists) (room : ℕ) → lines_verdict inner gap counts ls room ≡ Passed → line_start counts (length counts) ≡ count ls
+whole_of : (inner gap : Float) (counts : List ℕ) (ls : Lists) (room : ℕ) → lines_verdict inner gap counts ls room ≡ Ok tt → line_start counts (length counts) ≡ count ls
 unfolding lines_verdict
 whole_of inner gap counts ls room e =
     let rest = summed (outer_sum (cleaned gap) (items_of ls)) in
@@ -51,9 +49,9 @@ whole_of inner gap counts ls room e =
 -- any two results that the contract allows are equal
 pub lines_determined : (inner gap : Float) (counts : List ℕ) (ls : Lists) (targets₀ : List Float) (free₀ : List ℤ) (rounds₀ : List ℕ) (r s : Answer) (a b : List Float) (f g : List ℤ) (m n : List ℕ)
     → FlexedByLine inner gap counts ls r targets₀ free₀ rounds₀ a f m → FlexedByLine inner gap counts ls s targets₀ free₀ rounds₀ b g n → (r ≡ s) × (a ≡ b) × (f ≡ g) × (m ≡ n)
-lines_determined inner gap counts ls targets₀ free₀ rounds₀ (Refused w) (Refused x) a b f g m n p q = (ap Refused (same_why p.0 q.0), p.1 ∙ sym q.1, p.2 ∙ sym q.2, p.3 ∙ sym q.3)
-lines_determined inner gap counts ls targets₀ free₀ rounds₀ (Refused w) (Done k t) a b f g m n p q = absurd (not_both q.0 p.0)
-lines_determined inner gap counts ls targets₀ free₀ rounds₀ (Done k t) (Refused w) a b f g m n p q = absurd (not_both p.0 q.0)
-lines_determined inner gap counts ls targets₀ free₀ rounds₀ (Done k t) (Done k' t') a b f g m n p q =
+lines_determined inner gap counts ls targets₀ free₀ rounds₀ (Err w) (Err x) a b f g m n p q = (ap Err (same_why p.0 q.0), p.1 ∙ sym q.1, p.2 ∙ sym q.2, p.3 ∙ sym q.3)
+lines_determined inner gap counts ls targets₀ free₀ rounds₀ (Err w) (Ok d) a b f g m n p q = absurd (not_both q.0 p.0)
+lines_determined inner gap counts ls targets₀ free₀ rounds₀ (Ok d) (Err w) a b f g m n p q = absurd (not_both p.0 q.0)
+lines_determined inner gap counts ls targets₀ free₀ rounds₀ (Ok d) (Ok d') a b f g m n p q =
     let e = one-flexed counts (whole_of inner gap counts ls (room_of targets₀ free₀ rounds₀) p.0) p.2 q.2 in
-    (ap₂ (λ (x y : ℕ). Done x y) (p.1 ∙ sym q.1) e.sums, e.targets, e.free, e.rounds)
+    (ap₂ (λ (x y : ℕ). done x y) (p.1 ∙ sym q.1) e.sums, e.targets, e.free, e.rounds)

@@ -2,12 +2,8 @@
 -- rounds by line and answer the rounds' sum"). Assumes nothing.
 use Rattle.std.specs.Prelude.{◌≡◌, List, ℕ, min, length, ℤ, Float}
 use Rattle.grid.specs.Grid.{cleaned}
-use Rattle.checks.specs.Domain.{checked, summed, then}
-use Rattle.checks.specs.declared.Verdict.{Verdict}
-use Rattle.checks.specs.declared.Verdict.TheVariants.{Passed}
-use Rattle.checks.specs.declared.Verdict.TheVariants as verdict
-use Rattle.checks.specs.declared.Answer.{Answer}
-use Rattle.checks.specs.declared.Answer.TheVariants.{Done, Refused}
+use Rattle.std.specs.declared.result.Result.TheVariants.{Ok, Err}
+use Rattle.checks.specs.Domain.{Verdict, Answer, checked, summed, then}
 use Rattle.flex.specs.declared.Item.{Item}
 use Rattle.flex.specs.Flex.{outer_sum}
 use Rattle.flex.specs.Items.{Lists, count, item_at, items_of}
@@ -29,10 +25,11 @@ lines_verdict inner gap counts ls room = then (lines_shape counts ls room)
 -- a refusal changes no cell; where the checks passed, the lines are flexed
 abbrev pub AnsweredLines : Verdict → Float → Float → (ℕ → Item) → ℕ → List ℕ → Answer → List Float → List ℤ → List ℕ
     → List Float → List ℤ → List ℕ → Type 0
-AnsweredLines v inner gap item n counts (Refused why) targets₀ free₀ rounds₀ targets free rounds =
-    (v ≡ verdict.Refused why) × (targets ≡ targets₀) × (free ≡ free₀) × (rounds ≡ rounds₀)
-AnsweredLines v inner gap item n counts (Done lines sum) targets₀ free₀ rounds₀ targets free rounds = (v ≡ Passed)
-    × (lines ≡ length counts) × FlexedLines inner gap item n counts sum targets₀ free₀ rounds₀ targets free rounds
+AnsweredLines v inner gap item n counts (Err why) targets₀ free₀ rounds₀ targets free rounds =
+    (v ≡ Err why) × (targets ≡ targets₀) × (free ≡ free₀) × (rounds ≡ rounds₀)
+AnsweredLines v inner gap item n counts (Ok done) targets₀ free₀ rounds₀ targets free rounds = (v ≡ Ok tt)
+    × (done.lines ≡ length counts)
+    × FlexedLines inner gap item n counts done.rounds targets₀ free₀ rounds₀ targets free rounds
 
 abbrev pub FlexedByLine : Float → Float → List ℕ → Lists → Answer → List Float → List ℤ → List ℕ → List Float → List ℤ
     → List ℕ → Type 0

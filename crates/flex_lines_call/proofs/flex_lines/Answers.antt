@@ -1,62 +1,48 @@
 -- The call over many lines: what it answers is what its checks say, in their order. Assumes nothing.
-use mathlib.Core.Path.{◌≡◌, refl, sym, ap, ◌∙◌, subst}
+use Rattle.std.proofs.Common.{rules}
+use mathlib.Core.Path.{◌≡◌, sym, ap, ◌∙◌}
 use mathlib.Core.List.{List}
 use Prim.Native.Nat.{ℕ, min}
 use lib.ListN.{length}
 use lib.IntN.{ℤ}
 use lib.Ieee.{Float}
-use Rattle.grid.specs.Grid.{cleaned}
-use Rattle.checks.specs.Domain.{then}
+use Rattle.checks.specs.Domain.{Verdict, then}
 use Rattle.checks.specs.Marks.{least_mark, judged}
-use Rattle.checks.specs.declared.Verdict.{Verdict}
-use Rattle.flex.specs.Items.{Lists, lists, count, item_at}
+use Rattle.flex.specs.Items.{Lists, lists_of}
 use Rattle.flex_checks.specs.Counts.{lines_shape, lines_input}
-use Rattle.flex_lines_call.specs.Lines.{room_of, AnsweredLines}
-use Rattle.flex_lines_call.proofs.ManyLines.{checked_lines, lines_refused, lines_passed}
+use Rattle.flex_lines_call.specs.Lines.{room_of}
+use Rattle.flex_lines_call.proofs.ManyLines.{checked_lines, answered_refused, answered_passed}
 use Rattle.flex_lines_call.proofs.flex_lines.Goals as goal
 
--- checks 1 to 5, by the room
-abbrev verdict : Float → Float → List ℕ → Lists → ℕ → Verdict
-verdict inner gap counts ls k = then (lines_shape counts ls k) (judged (least_mark (lines_input inner gap counts ls)))
-
--- what they said
-said : (inner gap : Float) (counts : List ℕ) (ls : Lists) (targets : List Float) (free : List ℤ) (rounds : List ℕ)
-    (m k : ℕ) (v w : Verdict) → m ≡ min (length free) (length rounds) → k ≡ min (length targets) m
-    → v ≡ verdict inner gap counts ls k → v ≡ w → verdict inner gap counts ls (room_of targets free rounds) ≡ w
-said inner gap counts ls targets free rounds m k v w p q e h =
-    ap (λ (k : ℕ). verdict inner gap counts ls k) (sym (q ∙ ap (λ (k : ℕ). min (length targets) k) p)) ∙ sym e ∙ h
+-- what checks 1 to 5 said, by the room
+said : (inner gap : Float) (counts : List ℕ) (ls : Lists) (targets : List Float) (free : List ℤ) (rounds : List ℕ) (m k : ℕ) (v : Verdict) → m ≡ min (length free) (length rounds) → k ≡ min (length targets) m
+    → v ≡ then (lines_shape counts ls k) (judged (least_mark (lines_input inner gap counts ls)))
+    → then (lines_shape counts ls (room_of targets free rounds)) (judged (least_mark (lines_input inner gap counts ls))) ≡ v
+said inner gap counts ls targets free rounds m k v p q e =
+    ap (λ (k : ℕ). then (lines_shape counts ls k) (judged (least_mark (lines_input inner gap counts ls))))
+    (sym (q ∙ ap (min (length targets)) p)) ∙ sym e
 
 pub flex_lines_checked-requires : goal.flex_lines_checked-requires
 flex_lines_checked-requires c =
     let a = c.args in
-    let ls = lists a.base.now a.minimum.now a.maximum.now a.has_maximum.now a.edges.now a.grow.now a.shrink.now
-    a.start.now a.end.now a.auto_start.now a.auto_end.now in
-    checked_lines a.inner a.gap a.counts.now ls a.targets.now a.free.now a.rounds.now
-    (said a.inner a.gap a.counts.now ls a.targets.now a.free.now a.rounds.now c.smaller.result c.smaller-2.result _ _
-    c.smaller.ensures c.smaller-2.ensures c.check_lines-v.ensures c.in-Passed.is)
+    checked_lines a.inner a.gap a.counts.now (lists_of a.items) a.targets.now a.free.now a.rounds.now
+    (said a.inner a.gap a.counts.now (lists_of a.items) a.targets.now a.free.now a.rounds.now _ _ _ c.min.ensures
+    c.min-room.ensures c.in_ok-check_lines.ensures)
 
-pub returns-in-Refused : goal.returns-in-Refused
-returns-in-Refused c =
+pub returns-in_err-check_lines : goal.returns-in_err-check_lines
+returns-in_err-check_lines c =
     let a = c.args in
-    let ls = lists a.base.now a.minimum.now a.maximum.now a.has_maximum.now a.edges.now a.grow.now a.shrink.now
-    a.start.now a.end.now a.auto_start.now a.auto_end.now in (
-      lines_refused a.inner a.gap a.counts.now ls (room_of a.targets.now a.free.now a.rounds.now) _
-          (said a.inner a.gap a.counts.now ls a.targets.now a.free.now a.rounds.now c.smaller.result c.smaller-2.result
-          _ _ c.smaller.ensures c.smaller-2.ensures c.check_lines-v.ensures c.in-Refused.is),
-      refl,
-      refl,
-      refl,
-    )
+    answered_refused a.inner a.gap a.counts.now (lists_of a.items) a.targets.now a.free.now a.rounds.now _ _
+    (said a.inner a.gap a.counts.now (lists_of a.items) a.targets.now a.free.now a.rounds.now _ _ _ c.min.ensures
+    c.min-room.ensures c.in_err-check_lines.ensures)
+    (search rules)
 
-pub returns-in-Passed : goal.returns-in-Passed
-returns-in-Passed c =
+pub returns : goal.returns
+returns c =
     let a = c.args in
-    let ls = lists a.base.now a.minimum.now a.maximum.now a.has_maximum.now a.edges.now a.grow.now a.shrink.now
-    a.start.now a.end.now a.auto_start.now a.auto_end.now in
     let f = c.flex_lines_checked in
-    subst (λ (v : Verdict). AnsweredLines v (cleaned a.inner) (cleaned a.gap) (item_at ls) (count ls) a.counts.now
-    f.result a.targets.now a.free.now a.rounds.now f.new.targets f.new.free f.new.rounds)
-    (sym (lines_passed a.inner a.gap a.counts.now ls (room_of a.targets.now a.free.now a.rounds.now)
-    (said a.inner a.gap a.counts.now ls a.targets.now a.free.now a.rounds.now c.smaller.result c.smaller-2.result _
-    _ c.smaller.ensures c.smaller-2.ensures c.check_lines-v.ensures c.in-Passed.is)))
+    answered_passed a.inner a.gap a.counts.now (lists_of a.items) a.targets.now a.free.now a.rounds.now f.result
+    f.new.targets f.new.free f.new.rounds
+    (said a.inner a.gap a.counts.now (lists_of a.items) a.targets.now a.free.now a.rounds.now _ _ _ c.min.ensures
+    c.min-room.ensures c.in_ok-check_lines.ensures)
     f.ensures
