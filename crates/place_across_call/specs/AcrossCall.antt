@@ -1,14 +1,9 @@
 -- The call for the items of one line across it: what it takes, checks and answers. Assumes nothing.
 use Rattle.std.specs.Prelude.{not, List, [], ◌∷◌, ◌++◌, ℕ, eqb, length, Float}
-use Rattle.checks.specs.Domain.{float, code, Input, checked, then}
+use Rattle.std.specs.declared.result.Result.TheVariants.{Ok, Err}
+use Rattle.checks.specs.Domain.{float, code, Input, Verdict, checked, then, Answer, done}
 use Rattle.checks.specs.Shapes.{shape_of}
 use Rattle.checks.specs.declared.Kind.TheVariants.{Worked}
-use Rattle.checks.specs.declared.Verdict.{Verdict}
-use Rattle.checks.specs.declared.Verdict.TheVariants.{Passed}
-use Rattle.checks.specs.declared.Verdict.TheVariants as verdict
-use Rattle.checks.specs.declared.Answer.{Answer}
-use Rattle.checks.specs.declared.Answer.TheVariants.{Done}
-use Rattle.checks.specs.declared.Answer.TheVariants as answer
 use Rattle.place_size.specs.CrossSize.{CrossLists, count}
 use Rattle.place_cross.specs.CrossAxis.{used_sizes, used_starts, used_ends, item_offsets}
 use Rattle.place_checks.specs.Numbers.{across_numbers_at, item_lengths}
@@ -28,7 +23,7 @@ lengths ls alignment auto-size = item_lengths ls ++ (length alignment ∷ length
 unfoldable pub across_verdict : Float → ℕ → CrossLists → List ℕ → List ℕ → List ℕ → Verdict
 across_verdict line reversed ls alignment auto-size rooms = then
     (shape_of (lengths ls alignment auto-size) rooms (count ls))
-    (checked (across_input line reversed ls alignment auto-size) Passed)
+    (checked (across_input line reversed ls alignment auto-size) (Ok tt))
 
 -- the call's answer, and its lent lists as it returns: used sizes, used start margins, used end margins, offsets
 pub record AcrossResult : Type 0 where
@@ -44,11 +39,11 @@ across_result r z s e o = record { answer = r; sizes = z; starts = s; ends = e; 
 -- a refusal changes no cell; the call works out no lines and no rounds
 abbrev pub across_into : Verdict → Float → ℕ → CrossLists → List ℕ → List ℕ → List Float → List Float → List Float
     → List Float → AcrossResult
-across_into (verdict.Refused why) line reversed ls alignment auto-size z s e o =
-    across_result (answer.Refused why) z s e o
-across_into Passed line reversed ls alignment auto-size z s e o =
+across_into (Err why) line reversed ls alignment auto-size z s e o =
+    across_result (Err why) z s e o
+across_into (Ok tt) line reversed ls alignment auto-size z s e o =
     let back = not (eqb reversed 0) in
-    across_result (Done 0 0) (used_sizes line back ls alignment auto-size z)
+    across_result (done 0 0) (used_sizes line back ls alignment auto-size z)
     (used_starts line back ls alignment auto-size s) (used_ends line back ls alignment auto-size e)
     (item_offsets line back ls alignment auto-size o)
 

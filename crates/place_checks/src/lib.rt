@@ -3,4 +3,3 @@
 
 pub mod numbers; // numbers.rt: the container's cross axis in numbers
 pub mod marks; // marks.rt: what is checked of a line's items
-pub mod lengths; // lengths.rt: checks 1 and 2 of a line's lists

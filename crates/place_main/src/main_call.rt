@@ -9,6 +9,7 @@ ghost use Rattle.checks.specs.Shapes.{shape_of};
 ghost use Rattle.place_main.specs.MainCall.{main_container_numbers, main_input, lengths, main_result, main_call};
 
 use crate::{LineLists, main_axis};
+use checks::shapes::check_lists;
 use checks::{Done, Kind, Mark, Refusal, judge, least};
 use checks_list::whole::{mark_beside, mark_list};
 use checks_number::{mark_code, mark_float};
@@ -24,14 +25,14 @@ fn check_main_shape(
         (count (lists_of items.entry)) }
 {
     let n = items.targets.len();
-    let codes = items.auto_start.len().max(items.auto_end.len());
-    let sides = items.start.len().max(items.end.len().max(codes));
-    let even = items.start.len() == n
-        && items.end.len() == n
-        && items.auto_start.len() == n
-        && items.auto_end.len() == n;
-    let room = n <= offsets && n <= used_start && n <= used_end;
-    checks::check_shape(n.max(sides), room && even)
+    let lengths = [
+        n,
+        items.start.len(),
+        items.end.len(),
+        items.auto_start.len(),
+        items.auto_end.len(),
+    ];
+    check_lists(&lengths, &[offsets, used_start, used_end], n)
 }
 
 fn mark_main_container(inner: f32, gap: f32, justify: u32, reversed: u32) -> Mark
@@ -67,6 +68,7 @@ fn check_main_numbers(
     ))
 }
 
+#[tactic(auto, unfolding(crate::specs::MainCall::main_verdict))]
 pub fn place_main(
     inner: f32,
     gap: f32,
