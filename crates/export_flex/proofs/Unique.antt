@@ -6,8 +6,7 @@ use Prim.Native.Nat.{ℕ}
 use lib.IntN.{ℤ}
 use lib.Ieee.{Float}
 use Rattle.flex.specs.Items.{Lists}
-use Rattle.flex_line_call.specs.declared.FlexAnswer.{FlexAnswer}
-use Rattle.flex_line_call.specs.Call.{values_of}
+use Rattle.flex_line_call.specs.Call.{FlexAnswer, values_of}
 use Rattle.flex_line_call.proofs.Determined.{line_determined}
 use Rattle.flex_lines_call.proofs.Independent.{lines_determined}
 use Rattle.export_answer.specs.declared.CAnswer.{CAnswer}

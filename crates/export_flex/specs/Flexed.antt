@@ -1,10 +1,9 @@
 -- The calls that flex, as they cross to C: each exported call is the call inside it, and its answer the paper's values.
 -- Assumes nothing.
 use Rattle.std.specs.Prelude.{◌≡◌, List, ℕ, ℤ, Float}
-use Rattle.checks.specs.declared.Answer.{Answer}
+use Rattle.checks.specs.Domain.{Answer}
 use Rattle.flex.specs.Items.{Lists}
-use Rattle.flex_line_call.specs.declared.FlexAnswer.{FlexAnswer}
-use Rattle.flex_line_call.specs.Call.{Values, values_of, FlexedLine}
+use Rattle.flex_line_call.specs.Call.{FlexAnswer, Values, values_of, FlexedLine}
 use Rattle.flex_lines_call.specs.Lines.{FlexedByLine}
 use Rattle.export_answer.specs.declared.CAnswer.{CAnswer}
 use Rattle.export_answer.specs.Crossing.{where_code, where_index, c_answer}

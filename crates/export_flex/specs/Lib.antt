@@ -1,2 +1,1 @@
 pub mod Flexed
-pub mod Parts

@@ -1,14 +1,16 @@
-// The calls that flex, for a host in C or C++ (include/fratolivem.h). Each is the call inside it, and takes any bits.
+// The calls that flex, for a host in C or C++ (include/fratolivem.h). Each is the call inside it, and takes any bits. C
+// has the lists one by one, and they go into one bundle here.
 #![tactic(auto)]
 
 ghost use Rattle.std.specs.Prelude.{◌≡◌};
 ghost use Rattle.flex.specs.Items.{lists};
 ghost use Rattle.flex_line_call.specs.Call.{values_of};
 ghost use Rattle.export_flex.specs.Flexed.{c_flexed, FlexedFromC, FlexedLinesFromC};
-ghost use Rattle.export_flex.specs.Parts.{c_nothing};
 
+use checks::Refusal;
 use export_answer::CAnswer;
-use flex_line_call::FlexAnswer;
+use flex::ItemLists;
+use flex_rounds::line::Flexing;
 
 // Number and place as in CAnswer; then the line's free space before flexing, in sixty-fourths, and its rounds. Both are
 // 0 on refusal.
@@ -22,30 +24,29 @@ pub struct CFlexed {
     pub rounds: u32,
 }
 
-fn nothing(r: CAnswer) -> CFlexed
-    ensures { result ≡ c_nothing r }
-{
-    CFlexed {
-        number: r.number,
-        at: r.at,
-        place: r.place,
-        free: 0,
-        rounds: r.rounds,
-    }
-}
+impl From<Result<Flexing, Refusal>> for CFlexed {
+    ghost from_gives = { λ told answer. answer ≡ c_flexed (values_of told) };
 
-fn flexed_to_c(a: FlexAnswer) -> CFlexed
-    ensures { result ≡ c_flexed (values_of a) }
-{
-    match a {
-        FlexAnswer::Done { free, rounds } => CFlexed {
-            number: 0,
-            at: 0,
-            place: 0,
-            free: free.0,
-            rounds,
-        },
-        FlexAnswer::Refused(why) => nothing(export_answer::refusal_to_c(why)),
+    fn from(told: Result<Flexing, Refusal>) -> CFlexed {
+        match told {
+            Ok(line) => CFlexed {
+                number: 0,
+                at: 0,
+                place: 0,
+                free: line.free.0,
+                rounds: line.rounds,
+            },
+            Err(why) => {
+                let refusal = CAnswer::from(why);
+                CFlexed {
+                    number: refusal.number,
+                    at: refusal.at,
+                    place: refusal.place,
+                    free: 0,
+                    rounds: refusal.rounds,
+                }
+            }
+        }
     }
 }
 
@@ -71,9 +72,7 @@ pub extern "C" fn fratolivem_flex_line<'a>(
         end.now auto_start.now auto_end.now) result targets.old
         targets.new }
 {
-    flexed_to_c(flex_line_call::flex_line(
-        inner,
-        gap,
+    let items = ItemLists {
         base,
         minimum,
         maximum,
@@ -85,8 +84,8 @@ pub extern "C" fn fratolivem_flex_line<'a>(
         end,
         auto_start,
         auto_end,
-        targets,
-    ))
+    };
+    flex_line_call::flex_line(inner, gap, items, targets).into()
 }
 
 #[unsafe(no_mangle)]
@@ -115,10 +114,7 @@ pub extern "C" fn fratolivem_flex_lines<'a>(
         auto_start.now auto_end.now) result targets.old free.old
         rounds.old targets.new free.new rounds.new }
 {
-    export_answer::to_c(flex_lines_call::flex_lines(
-        inner,
-        gap,
-        counts,
+    let items = ItemLists {
         base,
         minimum,
         maximum,
@@ -130,8 +126,6 @@ pub extern "C" fn fratolivem_flex_lines<'a>(
         end,
         auto_start,
         auto_end,
-        targets,
-        free,
-        rounds,
-    ))
+    };
+    flex_lines_call::flex_lines(inner, gap, counts, items, targets, free, rounds).into()
 }
