@@ -5,7 +5,6 @@ ghost use Rattle.std.specs.Int.Signed.{lt_z};
 ghost use Rattle.flex.specs.Flex.{magnitude, limited};
 ghost use Rattle.flex.specs.Steps.{Added, space_left, share_of};
 
-use crate::sizes::{factor_of, outer_size, weight_of};
 use crate::{Item, Line, Share, Sums};
 use grid::floats::sum_axis_gaps;
 
@@ -31,14 +30,14 @@ pub fn add_up(s: Sums, it: Item, growing: bool, frozen: bool, target: f32) -> Su
 {
     if frozen {
         return Sums {
-            outer: s.outer + outer_size(it, target),
+            outer: s.outer + it.outer_size(target),
             ..s
         };
     }
     Sums {
-        outer: s.outer + outer_size(it, it.base),
-        factors: s.factors + factor_of(it, growing),
-        weights: s.weights + weight_of(it, growing),
+        outer: s.outer + it.outer_size(it.base),
+        factors: s.factors + it.factor(growing),
+        weights: s.weights + it.weight(growing),
         left: s.left + 1,
     }
 }

@@ -9,7 +9,6 @@ ghost use Rattle.flex_rounds.specs.Cells.{cells_of, LineRoom, Rewritten, Ran};
 
 use crate::rounds::{one_round, sum_up};
 use flex::sharing::{is_growing, space_left};
-use flex::sizes::{hypothetical_size, is_inflexible, outer_size};
 use flex::{Item, Line, Sums};
 use grid::floats::sum_axis_gaps;
 
@@ -19,7 +18,7 @@ fn hypothetical_sum(items: &[Item]) -> f32
 {
     let mut s = 0.0;
     for &it in items {
-        s = s + outer_size(it, hypothetical_size(it));
+        s = s + it.outer_size(it.hypothetical_size());
     }
     s
 }
@@ -43,13 +42,13 @@ fn begin(items: &[Item], growing: bool, frozen: &mut [bool], targets: &mut [f32]
         frozen.new targets.new }
 {
     for (i, &it) in items.iter().enumerate() {
-        frozen[i] = is_inflexible(it, growing);
-        targets[i] = hypothetical_size(it);
+        frozen[i] = it.is_inflexible(growing);
+        targets[i] = it.hypothetical_size();
     }
 }
 
 // Step 4: the rounds, counted, from the sums before the first. Each freezes an item, so that there are no more of them
-// than items.
+// than items; only the sums say when they are over.
 fn run_rounds(
     items: &[Item],
     ln: Line,

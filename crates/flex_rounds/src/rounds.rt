@@ -1,11 +1,13 @@
-// One round of the loop, steps 4b to 4e, over a line's items and their frozen marks and targets. No entry points.
+// One round of the loop, steps 4b to 4e, over a line's items and their frozen marks and targets. The marks and targets
+// are lists beside the items, since the targets are the caller's own. They are read and written by the item's index: no
+// clause says what a zip of lists that are written leaves in them. No entry points.
 ghost use Rattle.std.specs.Prelude.{◌≡◌, map};
 ghost use Rattle.flex.specs.Flex.{total, left, violation, round};
 ghost use Rattle.flex.specs.Steps.{Summed, sized, settled};
 ghost use Rattle.flex_rounds.specs.Cells.{cells_of, LineRoom, Rewritten};
 
 use flex::sharing::{add_up, share_of};
-use flex::sizes::{clamped, flexed_size, is_frozen};
+use flex::sizes::is_frozen;
 use flex::{Item, Line, Share, Sums};
 
 // The sums before a round: what all items take, the factors and weights of the unfrozen ones, and how many those are.
@@ -40,8 +42,8 @@ fn flex_sizes(items: &[Item], sh: Share, frozen: &[bool], targets: &mut [f32]) -
         if frozen[i] {
             continue;
         }
-        let size = flexed_size(it, sh);
-        sum = sum + (clamped(it, size) - size);
+        let size = it.flexed_size(sh);
+        sum = sum + (it.clamped(size) - size);
         targets[i] = size;
     }
     sum
@@ -59,7 +61,7 @@ fn settle_all(items: &[Item], sum: f32, frozen: &mut [bool], targets: &mut [f32]
             continue;
         }
         let size = targets[i];
-        let held = clamped(it, size);
+        let held = it.clamped(size);
         frozen[i] = is_frozen(sum, held - size);
         targets[i] = held;
     }

@@ -5,14 +5,13 @@ ghost use Rattle.flex.specs.Flex.{outer_units, outer_sum};
 ghost use Rattle.flex.specs.Accepted.{Measured, Every};
 
 use flex::Item;
-use flex::sizes::hypothetical_size;
 
 // The hypothetical outer size. Beyond 262,144 px an f32 does not hold it, so it is added in whole sixty-fourths.
 fn outer_units(it: Item) -> grid::Sixtyfourths
     requires { Measured it }
     ensures { result.0 ≡ outer_units it }
 {
-    let size = grid::to_sixtyfourths(hypothetical_size(it));
+    let size = grid::to_sixtyfourths(it.hypothetical_size());
     let start = grid::to_sixtyfourths(it.start);
     let end = grid::to_sixtyfourths(it.end);
     grid::Sixtyfourths(size.0 + (start.0 + end.0))
