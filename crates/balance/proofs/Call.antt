@@ -2,12 +2,12 @@
 use mathlib.Core.Path.{◌≡◌, refl, sym, ap, subst, ◌∙◌}
 use mathlib.Core.Bool.{Bool, ◌&&◌}
 use mathlib.Core.Logic.{◌⊎◌, inl, inr}
-use mathlib.Core.List.{List, [], ◌∷◌, ◌++◌, map, append_assoc}
-use Prim.Native.Nat.{ℕ, ◌+◌, ◌-◌, ◌*◌, ◌≤◌, ◌<◌, zero-le}
+use mathlib.Core.List.{List, [], ◌∷◌, map}
+use Prim.Native.Nat.{ℕ, ◌+◌, ◌*◌, ◌≤◌, ◌<◌, zero-le}
 use native.Mathlib.Omega.{arith}
 use borrow.Author.Tests.{lt-ltb}
 use lib.Dec.{T, leb, leb→le}
-use lib.ListN.{length, take, drop, replicate, length-map, length-drop}
+use lib.ListN.{length, drop, length-map, length-drop}
 use lib.IntN.{ℤ}
 use lib.Ieee.{Float, binary64, of_bits}
 use mir.Facts.{and_yes}
@@ -25,9 +25,7 @@ use Rattle.break_greedy.proofs.Accepted.{breakable}
 use Rattle.balance_rule.specs.Rule.{floored, Valid}
 use Rattle.balance.specs.Calls.{BreakLent, break_lent, has_room, balanced_verdict, worked, Divides, BalancedCall}
 use Rattle.balance.specs.Parts.{Roomy, Searched}
-use Rattle.lists.proofs.Filling.{fill_on}
-use Rattle.balance.proofs.Cells.{cleared_part}
-use Rattle.balance_division.specs.Divided.{BalancedCounts, Cleared, ClearedF}
+use Rattle.balance.proofs.Cells.{filled_left}
 use Rattle.balance_rule.proofs.DpLaws.{lt_or_ge}
 use Rattle.balance_rule.proofs.Unique.{balanced_one}
 
@@ -40,30 +38,16 @@ room_of n l t =
 
 -- ---- the cells
 module _ (limit : AvailableSpace) (gap : Float) (minimum : ℕ) (sizes : List Float) where
-  -- what lies past the cells of the search stays
-  pub searches : (b : BreakLent) (r : ℕ) (counts opts : List ℕ) (sums : List Float) → length sizes * length sizes ≤ length b.work → length sizes ≤ length b.sums
-      → BalancedCounts limit gap minimum sizes r counts → Cleared (take (length sizes * length sizes) b.work) opts → ClearedF (take (length sizes) b.sums) sums
-      → Searched limit gap minimum sizes b r (break_lent (counts ++ drop (length sizes) b.counts) (opts ++ drop (length sizes * length sizes) b.work) (sums ++ drop (length sizes) b.sums))
-  searches b r counts opts sums w k D o s =
-      let n : ℕ = length sizes in
-      let c = ap (λ (l : List ℕ). l ++ drop n b.counts) D.counts_are ∙ append_assoc D.division (replicate (n - length D.division) 0) (drop n b.counts) in
-      let x = cleared_part 0 (n * n) b.work opts w o in
-      let y = cleared_part (of_bits binary64 0) n b.sums sums k s in
-      record { division = D.division; balanced = D.balanced; lines_are = D.lines; cells = rw (c, x, y) }
-
-  -- and then the rest of the named work cells is cleared
+  -- after the search the rest of the named work cells is cleared
   pub divides : (b a : BreakLent) (r : ℕ) (work : List ℕ) (sums : List Float) → Searched limit gap minimum sizes b r a
       → work ≡ filled 0 (length sizes * length sizes) (length sizes * length sizes + 3 * length sizes) a.work
       → sums ≡ filled (of_bits binary64 0) (length sizes) (3 * length sizes) a.sums
       → Divides limit gap minimum sizes b r (break_lent a.counts work sums)
-  divides b a r work sums D w s =
+  divides b a r work sums S w s =
       let n : ℕ = length sizes in
-      let k : n * n ≤ n * n + 3 * n = omega arith in
-      let j : n ≤ 3 * n = omega arith in
-      let p = ap (λ (l : BreakLent). l.counts) D.cells in
-      let q = w ∙ ap (filled 0 (n * n) (n * n + 3 * n)) (ap (λ (l : BreakLent). l.work) D.cells) ∙ fill_on 0 (n * n) (n * n + 3 * n) b.work k in
-      let t = s ∙ ap (filled (of_bits binary64 0) n (3 * n)) (ap (λ (l : BreakLent). l.sums) D.cells) ∙ fill_on (of_bits binary64 0) n (3 * n) b.sums j in
-      record { division = D.division; balanced = D.balanced; lines_are = D.lines_are; cells = rw (p, q, t) }
+      let q = w ∙ filled_left 0 (n * n) (n * n + 3 * n) b.work a.work (omega arith) S.work_left in
+      let t = s ∙ filled_left (of_bits binary64 0) n (3 * n) b.sums a.sums (omega arith) S.sums_left in
+      record { division = S.division; balanced = S.balanced; lines_are = S.lines_are; cells = rw (S.counts_are, q, t) }
 
 -- ---- no more lines than items
 valid_few : (limit : Limit) (gap : ℤ) (xs : List ℤ) (d : List ℕ) → Valid limit gap xs d → length d ≤ length xs

@@ -43,16 +43,13 @@ abbrev pub worked : ℕ → List ℕ → BreakLent → BreakLent
 worked n lines b =
     break_lent (count_cells n lines b.counts) (zeroed (n * n + 3 * n) b.work) (zeroed_f (3 * n) b.sums)
 
--- the balanced division, with the lent lists left as `leaves` says
-pub record DividesLeaving (leaves : ℕ → List ℕ → BreakLent → BreakLent) (limit : AvailableSpace) (gap : Float)
-    (minimum : ℕ) (sizes : List Float) (before : BreakLent) (lines : ℕ) (after : BreakLent) : Type 0 where
+-- the balanced division, with the lent lists left as they are to be
+pub record Divides (limit : AvailableSpace) (gap : Float) (minimum : ℕ) (sizes : List Float) (before : BreakLent)
+    (lines : ℕ) (after : BreakLent) : Type 0 where
   pub division : List ℕ
   pub balanced : Balanced (limit_of limit) (sixty_fourths gap) (units sizes) minimum division
   pub lines_are : lines ≡ length division
-  pub cells : after ≡ leaves (length sizes) division before
-
-abbrev pub Divides : AvailableSpace → Float → ℕ → List Float → BreakLent → ℕ → BreakLent → Type 0
-Divides = DividesLeaving worked
+  pub cells : after ≡ worked (length sizes) division before
 
 -- THE CALL: it refuses by the checks and changes nothing, or it answers with the number of lines and leaves their
 -- counts. The codes are those that came before the limit

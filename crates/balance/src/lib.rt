@@ -13,53 +13,30 @@ use checks::shapes::has_work_room;
 use checks::{Done, Refusal, no_mark};
 use keywords::AvailableSpace;
 
-// The search of up to N items. Two parts of one lent list cannot be lent at a time, so five lists of the search are the
-// frame's. The first n cells of each list are lent to it, and n * n of `work`.
-fn divide_sized<const N: usize>(
-    breaking: Breaking,
-    counts: &mut [u32],
-    work: &mut [u32],
-    sums: &mut [f64],
-) -> usize
-    requires { Breakable breaking.limit breaking.gap breaking.sizes.now × (Roomy (length breaking.sizes.now)
-        (break_lent counts.old work.old sums.old)) × (length breaking.sizes.now ≤ N) × (N ≤ 1024) }
-    ensures { Searched breaking.entry.limit breaking.entry.gap breaking.entry.minimum breaking.entry.sizes.now
-        (break_lent counts.old work.old sums.old) result (break_lent counts.new work.new sums.new) }
-{
-    let n = breaking.sizes.len();
-    let mut fit = [0u32; N];
-    let mut greedy = [0u32; N];
-    let mut reach = [0u32; N];
-    let mut prev = [0.0f64; N];
-    let mut cur = [0.0f64; N];
-    let scratch = Scratch {
-        fit: &mut fit[..n],
-        greedy: &mut greedy[..n],
-        reach: &mut reach[..n],
-        prev: &mut prev[..n],
-        cur: &mut cur[..n],
-    };
-    divide(
-        breaking,
-        scratch,
-        &mut counts[..n],
-        &mut work[..n * n],
-        &mut sums[..n],
-    )
-}
-
-// Two sizes of the frame, since it is cleared whatever n is: few items then pay for few cells.
+// The search in the lent lists: the first n * n cells of `work` are for its choices and the 3 n after them for its
+// tables, and `sums` is for the sums and two rows of totals.
 fn search(breaking: Breaking, counts: &mut [u32], work: &mut [u32], sums: &mut [f64]) -> usize
     requires { Breakable breaking.limit breaking.gap breaking.sizes.now × Roomy (length breaking.sizes.now)
         (break_lent counts.old work.old sums.old) }
     ensures { Searched breaking.entry.limit breaking.entry.gap breaking.entry.minimum breaking.entry.sizes.now
         (break_lent counts.old work.old sums.old) result (break_lent counts.new work.new sums.new) }
 {
-    if breaking.sizes.len() <= 256 {
-        divide_sized::<256>(breaking, counts, work, sums)
-    } else {
-        divide_sized::<1024>(breaking, counts, work, sums)
-    }
+    let n = breaking.sizes.len();
+    let (opts, tables) = work.split_at_mut(n * n);
+    let (fit, tables) = tables.split_at_mut(n);
+    let (greedy, tables) = tables.split_at_mut(n);
+    let (reach, _) = tables.split_at_mut(n);
+    let (sums, totals) = sums.split_at_mut(n);
+    let (prev, totals) = totals.split_at_mut(n);
+    let (cur, _) = totals.split_at_mut(n);
+    let scratch = Scratch {
+        fit,
+        greedy,
+        reach,
+        prev,
+        cur,
+    };
+    divide(breaking, scratch, &mut counts[..n], opts, sums)
 }
 
 // The balanced division of accepted sizes, and all named work cells 0. No entry point.
