@@ -33,15 +33,13 @@ abbrev pub balanced_verdict : List Number → AvailableSpace → Float → List 
 balanced_verdict codes limit gap sizes before = breaking_verdict codes limit gap sizes (has_room (length sizes) before)
 
 -- "After acceptance those work cells are zero, and all cells past the named ones are unchanged."
-abbrev pub zeroed : ℕ → List ℕ → List ℕ
-zeroed n before = replicate n 0 ++ drop n before
-
-abbrev pub zeroed_f : ℕ → List Float → List Float
-zeroed_f n before = replicate n (of_bits binary64 0) ++ drop n before
+abbrev pub zeroed : {A : Type 0} → A → ℕ → List A → List A
+zeroed zero n before = replicate n zero ++ drop n before
 
 abbrev pub worked : ℕ → List ℕ → BreakLent → BreakLent
 worked n lines b =
-    break_lent (count_cells n lines b.counts) (zeroed (n * n + 3 * n) b.work) (zeroed_f (3 * n) b.sums)
+    break_lent (count_cells n lines b.counts) (zeroed 0 (n * n + 3 * n) b.work)
+    (zeroed (of_bits binary64 0) (3 * n) b.sums)
 
 -- the balanced division, with the lent lists left as they are to be
 pub record Divides (limit : AvailableSpace) (gap : Float) (minimum : ℕ) (sizes : List Float) (before : BreakLent)

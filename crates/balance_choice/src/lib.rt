@@ -8,6 +8,7 @@ ghost use Rattle.balance_sums.specs.Sums.{base_f};
 ghost use Rattle.balance_choice.specs.Cells.{cost_f, zero_f, FirstPlain, LeastOf, choose_f, Safe, PickOut};
 
 use balance_sums::{Sums, Units};
+use std::ops::Range;
 
 // The total of line scores: squares of whole sixty-fourths.
 #[derive(Clone, Copy)]
@@ -112,16 +113,16 @@ impl<'a> Row<'a> {
         }
     }
 
-    // The choice of one start, whose lines have this base, from the ends `end_lo` up to `end_hi`. No entry point.
-    pub fn pick(self, start: usize, base: Units, end_lo: usize, end_hi: usize) -> Picked
-        requires { Safe self.sums.up_to.now self.fit.now self.below.now self.max_end end_hi
+    // The choice of one start, whose lines have this base, from these ends. No entry point.
+    pub fn pick(self, start: usize, base: Units, ends: Range<usize>) -> Picked
+        requires { Safe self.sums.up_to.now self.fit.now self.below.now self.max_end ends.end
             × (start ≤ self.max_end) × (base.0 ≡ base_f self.sums.up_to.now self.sums.gap.0 start) }
         ensures { PickOut self.entry.sums.up_to.now self.entry.sums.gap.0 self.entry.fit.now self.entry.below.now
-            self.entry.max_end end_lo end_hi start result.end result.lo result.hi }
+            self.entry.max_end ends.start ends.end start result.end result.lo result.hi }
     {
         let reach = self.fit[start] as usize;
-        let from = end_lo.max(start);
-        let stop = end_hi.min(reach + 1);
+        let from = ends.start.max(start);
+        let stop = ends.end.min(reach + 1);
         let first = self.skip_zeros(from, stop);
         let far = reach.min(self.max_end);
         if first < stop {
@@ -136,7 +137,7 @@ impl<'a> Row<'a> {
             Picked {
                 end: far,
                 lo: first,
-                hi: end_hi,
+                hi: ends.end,
             }
         }
     }

@@ -1,8 +1,6 @@
 -- The balanced division of accepted sizes, by the plain rule, and the lent work cells after it. Only contracts of
 -- parts cite it. Assumes nothing.
 use Rattle.std.specs.Prelude.{◌≡◌, List, ◌++◌, ℕ, ◌-◌, length, replicate, Float}
-use Rattle.std.specs.Float.{binary64}
-use Rattle.std.specs.Float.Ieee.{of_bits}
 use Rattle.grid.specs.Grid.{sixty_fourths}
 use Rattle.keywords.specs.declared.AvailableSpace.{AvailableSpace}
 use Rattle.break_greedy.specs.Breaking.{limit_of}
@@ -17,9 +15,6 @@ pub record BalancedCounts (limit : AvailableSpace) (gap : Float) (minimum : ℕ)
   pub lines : r ≡ length division
   pub counts_are : counts ≡ division ++ replicate (length sizes - length division) 0
 
--- a list of which every cell is now 0
-abbrev pub Cleared : List ℕ → List ℕ → Type 0
-Cleared before now = now ≡ replicate (length before) 0
-
-abbrev pub ClearedF : List Float → List Float → Type 0
-ClearedF before now = now ≡ replicate (length before) (of_bits binary64 0)
+-- a list of which every cell is now zero
+abbrev pub Cleared : {A : Type 0} → A → List A → List A → Type 0
+Cleared zero before now = now ≡ replicate (length before) zero

@@ -3,11 +3,13 @@
 #![tactic(auto)]
 
 ghost use Rattle.std.specs.Prelude.{◌≡◌, ◌*◌, length};
+ghost use Rattle.std.specs.Float.{binary64};
+ghost use Rattle.std.specs.Float.Ieee.{of_bits};
 ghost use Rattle.break_greedy.specs.Breaking.{limit_of};
 ghost use Rattle.break_greedy.specs.Steps.{Breakable, LengthLimit};
 ghost use Rattle.balance_rule.specs.Natural.{natural};
 ghost use Rattle.balance_tables.specs.Tables.{LimitIs};
-ghost use Rattle.balance_division.specs.Divided.{BalancedCounts, Cleared, ClearedF};
+ghost use Rattle.balance_division.specs.Divided.{BalancedCounts, Cleared};
 
 use balance_run::{Scratch, counts_of_sizes};
 use balance_sums::Units;
@@ -50,12 +52,14 @@ pub fn divide(
     requires breakable { Breakable breaking.limit breaking.gap breaking.sizes.now }
     requires room { (length counts.old ≡ length breaking.sizes.now)
         × (length opts.old ≡ length breaking.sizes.now * length breaking.sizes.now)
-        × (length scratch.fit.now ≡ length breaking.sizes.now) × (length scratch.greedy.now ≡ length breaking.sizes.now)
+        × (length scratch.fit.now ≡ length breaking.sizes.now)
+        × (length scratch.greedy.now ≡ length breaking.sizes.now)
         × (length scratch.reach.now ≡ length breaking.sizes.now) × (length sums.old ≡ length breaking.sizes.now)
-        × (length scratch.prev.now ≡ length breaking.sizes.now) × (length scratch.cur.now ≡ length breaking.sizes.now) }
-    ensures balanced_counts { BalancedCounts breaking.entry.limit breaking.entry.gap breaking.entry.minimum breaking.entry.sizes.now result
-        counts.new }
-    ensures cleared { Cleared opts.old opts.new × ClearedF sums.old sums.new }
+        × (length scratch.prev.now ≡ length breaking.sizes.now)
+        × (length scratch.cur.now ≡ length breaking.sizes.now) }
+    ensures balanced_counts { BalancedCounts breaking.entry.limit breaking.entry.gap breaking.entry.minimum
+        breaking.entry.sizes.now result counts.new }
+    ensures cleared { Cleared 0 opts.old opts.new × Cleared (of_bits binary64 0) sums.old sums.new }
 {
     if breaking.sizes.is_empty() {
         return 0;
@@ -63,7 +67,16 @@ pub fn divide(
     let gap = to_size(breaking.gap);
     let most = most(breaking.limit);
     let minimum = breaking.minimum as usize;
-    let lines = counts_of_sizes(breaking.sizes, gap, most, minimum, scratch, sums, opts, counts);
+    let lines = counts_of_sizes(
+        breaking.sizes,
+        gap,
+        most,
+        minimum,
+        scratch,
+        sums,
+        opts,
+        counts,
+    );
     lists::clear(opts, 0, opts.len(), 0);
     lists::clear(sums, 0, sums.len(), 0.0);
     lines

@@ -12,35 +12,29 @@ ghost use Rattle.balance_rows.specs.Program.{RowSafe, RowBase, OneRow, RowsSoFar
 
 use balance_choice::Row;
 use balance_sums::Sums;
+use std::ops::Range;
 
-// Fills the starts from `lo` up to `hi` of a row: the middle one by its choice, and the two halves by calls of itself,
-// each with the ends that its starts may still need, of those from `from` up to `to`.
-fn fill_row(
-    row: Row,
-    cur: &mut [f64],
-    opts: &mut [u32],
-    lo: usize,
-    hi: usize,
-    from: usize,
-    to: usize,
-)
-    requires { Safe row.sums.up_to.now row.fit.now row.below.now row.max_end to × (hi ≤ row.max_end + 1)
-        × (length cur.old ≡ length row.below.now) × (length opts.old ≡ length row.below.now) }
+// Fills these starts of a row: the middle one by its choice, and the two halves by calls of itself, each with the ends
+// that its starts may still need, of these ends.
+fn fill_row(row: Row, cur: &mut [f64], opts: &mut [u32], starts: Range<usize>, ends: Range<usize>)
+    requires { Safe row.sums.up_to.now row.fit.now row.below.now row.max_end ends.end
+        × (starts.end ≤ row.max_end + 1) × (length cur.old ≡ length row.below.now)
+        × (length opts.old ≡ length row.below.now) }
     ensures { RowOut row.entry.sums.up_to.now row.entry.sums.gap.0 row.entry.fit.now row.entry.below.now
-        row.entry.max_end lo hi from to cur.old cur.new opts.old opts.new }
+        row.entry.max_end starts.start starts.end ends.start ends.end cur.old cur.new opts.old opts.new }
 {
-    if lo < hi {
-        let start = lo + (hi - lo) / 2;
+    if starts.start < starts.end {
+        let start = starts.start + (starts.end - starts.start) / 2;
         let base = row.sums.base(start);
-        let picked = row.pick(start, base, from, to);
+        let picked = row.pick(start, base, ends.start..ends.end);
         cur[start] = row.cost(base, picked.end).0;
         opts[start] = picked.end as u32;
-        if lo < start {
-            fill_row(row, cur, opts, lo, start, from, picked.hi);
+        if starts.start < start {
+            fill_row(row, cur, opts, starts.start..start, ends.start..picked.hi);
         }
         let next = start + 1;
-        if next < hi {
-            fill_row(row, cur, opts, next, hi, picked.lo, to);
+        if next < starts.end {
+            fill_row(row, cur, opts, next..starts.end, picked.lo..ends.end);
         }
     }
 }
@@ -113,7 +107,7 @@ fn one_row(
         below: prev,
         max_end,
     };
-    fill_row(row, cur, opts, start_lo, start_hi, end_lo, max_end + 1);
+    fill_row(row, cur, opts, start_lo..start_hi, end_lo..max_end + 1);
     copy_row(prev, cur, start_lo, start_hi);
 }
 

@@ -7,7 +7,7 @@ returns-then-first-stop c =
     let a = c.args in
     let r = a.self in
     let st = c.requires in
-    pick_some r.sums.up_to.now r.sums.gap.0 r.fit.now r.below.now r.max_end a.end_lo a.end_hi a.start c.skip_zeros-first.result c.min-stop.result c.min-far.result st.0 st.1
+    pick_some r.sums.up_to.now r.sums.gap.0 r.fit.now r.below.now r.max_end a.ends.start a.ends.end a.start c.skip_zeros-first.result c.min-stop.result c.min-far.result st.0 st.1
     (rw c.max-from.ensures at c.skip_zeros-first.ensures) c.min-stop.ensures c.min-far.ensures
     c.least-near.result c.choose-end.result (rw st.2 at c.least-near.ensures) (rw st.2 at c.choose-end.ensures)
 
@@ -16,6 +16,6 @@ returns-else-first-stop c =
     let a = c.args in
     let r = a.self in
     let st = c.requires in
-    pick-none r.sums.up_to.now r.sums.gap.0 r.fit.now r.below.now r.max_end a.end_lo a.end_hi a.start c.skip_zeros-first.result c.min-stop.result c.min-far.result st.0 st.1
+    pick-none r.sums.up_to.now r.sums.gap.0 r.fit.now r.below.now r.max_end a.ends.start a.ends.end a.start c.skip_zeros-first.result c.min-stop.result c.min-far.result st.0 st.1
     (rw c.max-from.ensures at c.skip_zeros-first.ensures) c.min-stop.ensures c.min-far.ensures
     c.if-first-stop.false
