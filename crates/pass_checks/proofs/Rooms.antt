@@ -1,21 +1,15 @@
--- The room of a call, list by list: what the tests of the lengths add up to, and what it shows. Assumes nothing.
+-- What checks 1 and 2 show of the lengths, list by list. Assumes nothing.
 use mathlib.Core.Path.{◌≡◌, sym, ap, ◌∙◌}
-use mathlib.Core.Bool.{Bool, ◌&&◌}
 use Prim.Native.Nat.{ℕ, ◌+◌, ◌*◌, ◌≤◌}
 use lib.Dec.{eqb, leb}
 use borrow.Author.Tests.{leb-true, eqb-true}
 use Rattle.checks.specs.Domain.{shape}
-use Rattle.checks.specs.declared.Verdict.TheVariants.{Passed}
+use Rattle.std.specs.declared.result.Result.TheVariants.{Ok}
 use Rattle.checks.proofs.Checks.{shape_passed}
 use Rattle.checks.proofs.Marked.{and_true}
 use Rattle.keywords.specs.declared.Mode.{Mode}
 use Rattle.keywords.specs.declared.Mode.TheVariants.{Balanced}
 use Rattle.pass_checks.specs.Checks.{room_to_break, pass_room}
-
-pub room_is : (n : ℕ) (mode : Mode) (numbers codes placed lines counts rounds free work sums : ℕ) {r0 r1 r2 r3 r4 r5 r6 r7 : Bool} → r0 ≡ room_to_break n mode work sums → r1 ≡ (leb n free && r0) → r2 ≡ (leb n rounds && r1) → r3 ≡ (leb n counts && r2) → r4 ≡ (leb (2 * n) lines && r3) → r5 ≡ (leb (8 * n) placed && r4) → r6 ≡ (eqb codes (8 * n) && r5) → r7 ≡ (eqb numbers (14 * n) && r6)
-    → r7 ≡ pass_room n mode numbers codes placed lines counts rounds free work sums
-unfolding pass_room
-room_is n mode numbers codes placed lines counts rounds free work sums e0 e1 e2 e3 e4 e5 e6 e7 = rw (e7, e6, e5, e4, e3, e2, e1, e0)
 
 -- ---- what checks 1 and 2 show
 
@@ -30,7 +24,7 @@ pub record Roomy (n : ℕ) (mode : Mode) (numbers codes placed lines counts roun
   pub free_room : n ≤ free
   pub work_room_is : mode ≡ Balanced → (n * n + 3 * n ≤ work) × (3 * n ≤ sums)
 
-pub roomy_of : (n : ℕ) (mode : Mode) (numbers codes placed lines counts rounds free work sums : ℕ) → shape n (pass_room n mode numbers codes placed lines counts rounds free work sums) ≡ Passed → Roomy n mode numbers codes placed lines counts rounds free work sums
+pub roomy_of : (n : ℕ) (mode : Mode) (numbers codes placed lines counts rounds free work sums : ℕ) → shape n (pass_room n mode numbers codes placed lines counts rounds free work sums) ≡ Ok tt → Roomy n mode numbers codes placed lines counts rounds free work sums
 unfolding pass_room
 roomy_of n mode numbers codes placed lines counts rounds free work sums e =
     let p = shape_passed n (pass_room n mode numbers codes placed lines counts rounds free work sums) e in

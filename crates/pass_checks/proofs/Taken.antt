@@ -6,11 +6,10 @@ use native.Mathlib.Nat.{le_trans, le_of_eq}
 use native.Mathlib.Omega.{arith}
 use lib.ListN.{length}
 use lib.Ieee.{Float}
-use Rattle.flex.specs.Items.{lists}
 use Rattle.flex.specs.Accepted.{Even}
-use Rattle.place_size.specs.CrossSize.{cross_lists}
 use Rattle.place_cross.specs.Parts.{SameLengths}
 use Rattle.pass_container.specs.Columns.{column, main_lists, cross_items, align_self, auto_size}
+use Rattle.pass_container.specs.declared.items.Items.{Items}
 use Rattle.pass_container.specs.Stages.{Inside, ItemLists}
 use Rattle.pass_container.proofs.ColumnLaws.{before, length-column}
 
@@ -71,9 +70,6 @@ module _ {n : ℕ} {x : List Float} {c : List ℕ} (t : ItemLists n x c) where
         auto_length = code 7 (omega arith);
       }
 
--- lists that are the columns
-pub lists_are : {b l h e g s x y b' l' h' e' g' s' x' y' : List Float} {k u v k' u' v' : List ℕ} → b ≡ b' → l ≡ l' → h ≡ h' → k ≡ k' → e ≡ e' → g ≡ g' → s ≡ s' → x ≡ x' → y ≡ y' → u ≡ u' → v ≡ v' → lists b l h k e g s x y u v ≡ lists b' l' h' k' e' g' s' x' y' u' v'
-lists_are p1 p2 p3 p4 p5 p6 p7 p8 p9 p10 p11 = cc
-
-pub items_are : {m l h e s t m' l' h' e' s' t' : List Float} {k p q k' p' q' : List ℕ} → m ≡ m' → l ≡ l' → h ≡ h' → k ≡ k' → e ≡ e' → s ≡ s' → t ≡ t' → p ≡ p' → q ≡ q' → cross_lists m l h k e s t p q ≡ cross_lists m' l' h' k' e' s' t' p' q'
-items_are p1 p2 p3 p4 p5 p6 p7 p8 p9 = cc
+-- the lists of a value of `Items`
+pub of_items : (i : Items) → ItemLists i.count i.numbers.now i.codes.now
+of_items i = record { few = i.few; numbers_long = i.numbers_long; codes_long = i.codes_long }

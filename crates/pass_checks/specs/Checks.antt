@@ -2,8 +2,7 @@
 -- both axes, and the room of the lent lists. Assumes nothing.
 use Rattle.std.specs.Prelude.{Bool, true, ◌&&◌, List, ◌∷◌, ◌++◌, ℕ, ◌*◌, eqb, leb, Float}
 use Rattle.grid.specs.Grid.{cleaned}
-use Rattle.checks.specs.Domain.{Number, float, code, Input, checked, shape, summed, then}
-use Rattle.checks.specs.declared.Verdict.{Verdict}
+use Rattle.checks.specs.Domain.{Number, float, code, Input, checked, shape, summed, then, Verdict}
 use Rattle.checks.specs.Shapes.{work_room}
 use Rattle.checks.specs.Optional.{optional}
 use Rattle.checks.specs.declared.Kind.TheVariants.{Length}

@@ -1,17 +1,16 @@
 -- The lines' cross sizes, line by line: what the walk lends of the items, and the walk; and that a line's size depends on its own items alone. Assumes nothing.
 use mathlib.Core.Path.{◌≡◌, refl, sym, ap, ◌∙◌}
 use mathlib.Core.List.{List}
-use Prim.Native.Nat.{ℕ, ◌+◌, ◌-◌, ◌≤◌, ◌<◌, zero-le}
+use Prim.Native.Nat.{ℕ, ◌+◌, ◌≤◌, ◌<◌, zero-le}
 use native.Mathlib.Omega.{arith}
 use lib.ListN.{length, get_or, set, take, drop}
 use lib.Seq.{take_at}
 use lib.Ieee.{Float}
-use borrow.Rule.Slice.PartMut.{mid_of, mid_len}
 use Rattle.lists.specs.ByLine.{line_start}
 use Rattle.place_size.specs.declared.container.Cross.{Cross}
 use Rattle.lists.specs.Cells.{each, overwritten}
 use Rattle.place_size.specs.CrossSize.{CrossLists, cross_lists, count, cross_line_size}
-use Rattle.place_size.specs.Parts.{CrossOneLength}
+use Rattle.place_size.specs.Lists.{part}
 use Rattle.lists.proofs.Each.{length-each, each_at, written_none, written_turn, written_length, written_all}
 use Rattle.pass_walk.specs.Sizes.{cross_line, cross_sizes}
 use Rattle.pass_walk.specs.SizeParts.{SizesReady}
@@ -19,60 +18,18 @@ use Rattle.lists.proofs.Walk.{Here, start_none, start_next, ends-within, lent_is
 
 -- ---- one line
 
--- what the walk lends of the items
-abbrev pub lent_items : ℕ → ℕ → CrossLists → CrossLists
-lent_items from to ls = cross_lists (mid_of from (to - from) ls.measured) (mid_of from (to - from) ls.minimum) (mid_of from (to - from) ls.maximum) (mid_of from (to - from) ls.capped) (mid_of from (to - from) ls.edges) (mid_of from (to - from) ls.start) (mid_of from (to - from) ls.end) (mid_of from (to - from) ls.auto_start) (mid_of from (to - from) ls.auto_end)
-
 pub same_items : {m m' l l' h h' e e' s s' t t' : List Float} {k k' p p' q q' : List ℕ} → m ≡ m' → l ≡ l' → h ≡ h' → k ≡ k' → e ≡ e' → s ≡ s' → t ≡ t' → p ≡ p' → q ≡ q' → cross_lists m l h k e s t p q ≡ cross_lists m' l' h' k' e' s' t' p' q'
 same_items a b c d f g i j o = rw (a, b, c, d, f, g, i, j, o)
 
-pub lent_items_lem : {counts : List ℕ} {from to j : ℕ} (ls : CrossLists) → Here counts from to j → lent_items from to ls ≡ cross_line counts j ls
-lent_items_lem ls h = same_items (lent_is h ls.measured) (lent_is h ls.minimum) (lent_is h ls.maximum) (lent_is h ls.capped) (lent_is h ls.edges) (lent_is h ls.start) (lent_is h ls.end) (lent_is h ls.auto_start) (lent_is h ls.auto_end)
+-- the part of the items that a line is lent
+pub part_is : {counts : List ℕ} {from to j : ℕ} (ls : CrossLists) → Here counts from to j → part from to ls ≡ cross_line counts j ls
+part_is ls h = same_items (lent_is h ls.measured) (lent_is h ls.minimum) (lent_is h ls.maximum) (lent_is h ls.capped) (lent_is h ls.edges) (lent_is h ls.start) (lent_is h ls.end) (lent_is h ls.auto_start) (lent_is h ls.auto_end)
 
--- what a turn may use: the line's range lies inside every list
+-- what a turn may use: the line's range lies inside the lists
 pub record Inside (ls : CrossLists) (from to : ℕ) : Type 0 where
   pub forward : from ≤ to
+  pub counted : to ≤ count ls
   pub few : to ≤ 1024
-  pub in_measured : to ≤ length ls.measured
-  pub in_minimum : to ≤ length ls.minimum
-  pub in_maximum : to ≤ length ls.maximum
-  pub in_capped : to ≤ length ls.capped
-  pub in_edges : to ≤ length ls.edges
-  pub in_start : to ≤ length ls.start
-  pub in_end : to ≤ length ls.end
-  pub in_auto_start : to ≤ length ls.auto_start
-  pub in_auto_end : to ≤ length ls.auto_end
-
-pub inside_of : {ls : CrossLists} {from to : ℕ} → CrossOneLength ls → from ≤ to → to ≤ count ls → Inside ls from to
-inside_of e h k = record {
-  forward = h;
-  few = omega (arith, e.few);
-  in_measured = k;
-  in_minimum = omega (arith, e.minimum);
-  in_maximum = omega (arith, e.maximum);
-  in_capped = omega (arith, e.capped);
-  in_edges = omega (arith, e.edges);
-  in_start = omega (arith, e.start);
-  in_end = omega (arith, e.end);
-  in_auto_start = omega (arith, e.auto_start);
-  in_auto_end = omega (arith, e.auto_end);
-}
-
--- the stage's own requirement
-pub lent_even : {ls : CrossLists} {from to : ℕ} → Inside ls from to → CrossOneLength (lent_items from to ls)
-lent_even {ls} {from} {to} t =
-    let n = mid_len from to ls.measured t.in_measured in
-    record {
-      few = omega (arith, n, t.few);
-      minimum = mid_len from to ls.minimum t.in_minimum ∙ sym n;
-      maximum = mid_len from to ls.maximum t.in_maximum ∙ sym n;
-      capped = mid_len from to ls.capped t.in_capped ∙ sym n;
-      edges = mid_len from to ls.edges t.in_edges ∙ sym n;
-      start = mid_len from to ls.start t.in_start ∙ sym n;
-      end = mid_len from to ls.end t.in_end ∙ sym n;
-      auto_start = mid_len from to ls.auto_start t.in_auto_start ∙ sym n;
-      auto_end = mid_len from to ls.auto_end t.in_auto_end ∙ sym n;
-    }
 
 -- ---- the walk
 
@@ -98,14 +55,14 @@ module _ (c : Cross) (counts : List ℕ) (ls : CrossLists) (sizes₀ : List Floa
       at_line = record { starts = g.here; ends = refl }
 
       pub sizing_inside : Inside ls from to
-      sizing_inside = inside_of ready.even (omega arith) (ends-within ready.division h at_line)
+      sizing_inside = let w = ends-within ready.division h at_line in record { forward = omega arith; counted = w; few = omega (arith, ready.even.few) }
 
       -- one line more
-      pub sizing_next : {x : Float} → x ≡ cross_line_size c (lent_items from to ls) → Sizing c counts ls sizes₀ (set sizes j x) to (j + 1)
+      pub sizing_next : {x : Float} → x ≡ cross_line_size c (part from to ls) → Sizing c counts ls sizes₀ (set sizes j x) to (j + 1)
       sizing_next e = record {
         here = start_next counts at_line;
         inside = omega arith;
-        sizes_are = written_turn (λ i. cross_line_size c (cross_line counts i ls)) j sizes₀ (omega (arith, ready.room)) g.sizes_are (e ∙ ap (cross_line_size c) (lent_items_lem ls at_line));
+        sizes_are = written_turn (λ i. cross_line_size c (cross_line counts i ls)) j sizes₀ (omega (arith, ready.room)) g.sizes_are (e ∙ ap (cross_line_size c) (part_is ls at_line));
       }
 
     -- all lines

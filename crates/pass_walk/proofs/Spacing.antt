@@ -11,57 +11,28 @@ use borrow.Rule.Slice.PartMut.{mid_of, put_mid, mid_len}
 use Rattle.lists.specs.ByLine.{line_start, part, Division}
 use Rattle.keywords.specs.declared.ContentAlignment.{ContentAlignment}
 use Rattle.place_main.specs.MainAxis.{LineLists, line_lists, count, Spaced}
-use Rattle.place_main.specs.Parts.{MainOneLength}
+use Rattle.place_main.specs.Lists as lent
 use Rattle.pass_walk.specs.Main.{main_line, MainLines}
 use Rattle.pass_walk.specs.MainParts.{MainReady}
 use Rattle.lists.proofs.Walk.{Here, start_none, start_next, ends-within, lent_is, Front, front-none, step, front_next, past_of, all_cells, same_parts}
 
 -- ---- one line
 
--- what the walk lends of the items
-abbrev pub lent_line : ℕ → ℕ → LineLists → LineLists
-lent_line from to l = line_lists (mid_of from (to - from) l.targets) (mid_of from (to - from) l.start) (mid_of from (to - from) l.end) (mid_of from (to - from) l.auto_start) (mid_of from (to - from) l.auto_end)
-
 pub same_line : {t t' s s' e e' : List Float} {p p' q q' : List ℕ} → t ≡ t' → s ≡ s' → e ≡ e' → p ≡ p' → q ≡ q' → line_lists t s e p q ≡ line_lists t' s' e' p' q'
 same_line {t' = t'} {s' = s'} {e' = e'} {p' = p'} {q' = q'} a b c d f = rw (a, b, c, d, f)
 
-lent_line_lem : {counts : List ℕ} {from to j : ℕ} (l : LineLists) → Here counts from to j → lent_line from to l ≡ main_line counts j l
-lent_line_lem l h = same_line (lent_is h l.targets) (lent_is h l.start) (lent_is h l.end) (lent_is h l.auto_start) (lent_is h l.auto_end)
+-- the part of the items that a line is lent
+part_is : {counts : List ℕ} {from to j : ℕ} (l : LineLists) → Here counts from to j → lent.part from to l ≡ main_line counts j l
+part_is l h = same_line (lent_is h l.targets) (lent_is h l.start) (lent_is h l.end) (lent_is h l.auto_start) (lent_is h l.auto_end)
 
 -- what a turn may use: the line's range lies inside every list
 pub record Turn (l : LineLists) (offsets starts ends : List Float) (from to : ℕ) : Type 0 where
   pub forward : from ≤ to
+  pub counted : to ≤ count l
   pub few : to ≤ 1024
-  pub in_targets : to ≤ length l.targets
-  pub in_start : to ≤ length l.start
-  pub in_end : to ≤ length l.end
-  pub in_auto_start : to ≤ length l.auto_start
-  pub in_auto_end : to ≤ length l.auto_end
   pub in_offsets : to ≤ length offsets
   pub in_starts : to ≤ length starts
   pub in_ends : to ≤ length ends
-
--- the stage's own requirement
-pub record Lent (l : LineLists) (offsets starts ends : List Float) : Type 0 where
-  pub even : MainOneLength l
-  pub room : (length l.targets ≤ length offsets) × (length l.targets ≤ length starts) × (length l.targets ≤ length ends)
-
-pub lent : {l : LineLists} {offsets starts ends : List Float} {from to : ℕ} → Turn l offsets starts ends from to → Lent (lent_line from to l) (mid_of from (to - from) offsets) (mid_of from (to - from) starts) (mid_of from (to - from) ends)
-lent {l} {offsets} {starts} {ends} {from} {to} t =
-    let n = mid_len from to l.targets t.in_targets in
-    let o = mid_len from to offsets t.in_offsets in
-    let s = mid_len from to starts t.in_starts in
-    let e = mid_len from to ends t.in_ends in
-    record {
-      even = record {
-        few = omega (arith, n, t.few);
-        start = mid_len from to l.start t.in_start ∙ sym n;
-        end = mid_len from to l.end t.in_end ∙ sym n;
-        auto_start = mid_len from to l.auto_start t.in_auto_start ∙ sym n;
-        auto_end = mid_len from to l.auto_end t.in_auto_end ∙ sym n;
-      };
-      room = (omega arith, omega arith, omega arith);
-    }
 
 module _ {inner gap : Float} {justify : ContentAlignment} {reversed : Bool} where
   -- all cells of a line are written
@@ -111,11 +82,7 @@ module _ (inner gap : Float) (justify : ContentAlignment) (reversed : Bool) (cou
           record {
             forward = omega arith;
             few = omega (arith, e.few);
-            in_targets = w;
-            in_start = omega (arith, e.start);
-            in_end = omega (arith, e.end);
-            in_auto_start = omega (arith, e.auto_start);
-            in_auto_end = omega (arith, e.auto_end);
+            counted = w;
             in_offsets = omega (arith, ready.offsets_room, g.offsets-front.long);
             in_starts = omega (arith, ready.starts_room, g.starts_front.long);
             in_ends = omega (arith, ready.ends_room, g.ends-front.long);
@@ -123,11 +90,11 @@ module _ (inner gap : Float) (justify : ContentAlignment) (reversed : Bool) (cou
 
       -- one line more
       pub spacing_next : (o s e : List Float) → length o ≡ length (mid_of from (to - from) offsets) → length s ≡ length (mid_of from (to - from) starts) → length e ≡ length (mid_of from (to - from) ends)
-          → Spaced inner gap justify reversed (lent_line from to l) (mid_of from (to - from) offsets) (mid_of from (to - from) starts) (mid_of from (to - from) ends) o s e
+          → Spaced inner gap justify reversed (lent.part from to l) (mid_of from (to - from) offsets) (mid_of from (to - from) starts) (mid_of from (to - from) ends) o s e
           → Spacing inner gap justify reversed counts l offsets₀ starts₀ ends₀ (put_mid from (to - from) offsets o) (put_mid from (to - from) starts s) (put_mid from (to - from) ends e) to (j + 1)
       spacing_next o s e lo ls le p =
           let t = turn_of in
-          let n = mid_len from to l.targets t.in_targets in
+          let n = mid_len from to l.targets t.counted in
           let ro : to ≤ length offsets₀ = omega (arith, t.in_offsets, g.offsets-front.long) in
           let rs : to ≤ length starts₀ = omega (arith, t.in_starts, g.starts_front.long) in
           let re : to ≤ length ends₀ = omega (arith, t.in_ends, g.ends-front.long) in
@@ -139,7 +106,7 @@ module _ (inner gap : Float) (justify : ContentAlignment) (reversed : Bool) (cou
             inside = omega arith;
             spaced = below_more (Line-spaced (put_mid from (to - from) offsets o) (put_mid from (to - from) starts s) (put_mid from (to - from) ends e)) j
                 (λ i m. moved (so.earlier i m) (ss.earlier i m) (se.earlier i m) (g.spaced i m))
-                (moved so.own ss.own se.own (subst (λ (x : LineLists). Spaced inner gap justify reversed x [] [] [] o s e) (lent_line_lem l at_line)
+                (moved so.own ss.own se.own (subst (λ (x : LineLists). Spaced inner gap justify reversed x [] [] [] o s e) (part_is l at_line)
                 (fresh (omega (arith, mid_len from to offsets t.in_offsets)) (omega (arith, mid_len from to starts t.in_starts)) (omega (arith, mid_len from to ends t.in_ends)) p)));
             offsets-front = front_next counts o at_line ro lo g.offsets-front;
             starts_front = front_next counts s at_line rs ls g.starts_front;

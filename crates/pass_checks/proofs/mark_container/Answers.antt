@@ -8,5 +8,5 @@ use Rattle.pass_checks.proofs.mark_container.Goals as goal
 
 pub returns : goal.returns
 returns c =
-    container_marks c.args.c (c.mark_cross-cross.ensures ∙ ap (λ (y : CrossNumbers). least_of (cross_numbers y) 0) c.cross_numbers.ensures) c.mark_given-limit.ensures
+    container_marks c.args.c (c.mark_cross-cross.ensures ∙ ap (λ (y : CrossNumbers). least_of (cross_numbers y) 0) c.into.ensures) c.mark_given-limit.ensures
     c.mark_code.ensures c.least.ensures c.least-m.ensures c.mark_code-2.ensures c.least-m-2.ensures c.mark_code-3.ensures c.least-m-3.ensures c.mark_code-4.ensures c.least-2.ensures
