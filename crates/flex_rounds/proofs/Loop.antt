@@ -1,4 +1,4 @@
--- The loop of rounds: what it keeps, a turn and its end, on plain values. Assumes nothing.
+-- The loops of a round and the loop of rounds: what they keep, a turn and their ends, on plain values. Assumes nothing.
 use mathlib.Core.Path.{◌≡◌, refl, sym, ap, ◌∙◌, subst}
 use mathlib.Core.Bool.{Bool}
 use mathlib.Core.List.{List}
@@ -10,10 +10,18 @@ use lib.ListN.{length}
 use lib.Ieee.{Float}
 use Rattle.flex.specs.declared.Item.{Item}
 use Rattle.flex.specs.declared.Line.{Line}
-use Rattle.flex.specs.Flex.{unfrozen, round, after}
+use Rattle.flex.specs.Flex.{Cell, unfrozen, round, after}
 use Rattle.flex_rounds.specs.Cells.{cell_at, cells_of, Untouched, Rewritten, Ran}
+use Rattle.lists.specs.Cells.{each}
 use Rattle.lists.proofs.Each.{length-each}
+use Rattle.flex_table.specs.Table.{item_in}
+use Rattle.flex_table.proofs.Each.{Turned, turned_all}
 use Rattle.flex.proofs.Falls.{falls, rounds_left}
+
+-- a loop that rewrites marks and targets is over
+pub rewritten_all : {items : List Item} {want : ℕ → Cell} {cells : List Cell} {frozen₀ : List Bool} {targets₀ : List Float} {frozen : List Bool} {targets : List Float} {i : ℕ} → cells ≡ each (length items) want → Turned (length items) want (item_in items) frozen₀ targets₀ frozen targets i → length items ≤ i
+    → Rewritten items cells targets₀ frozen targets
+rewritten_all e t h = record { cells_are = turned_all t h ∙ sym e; kept = λ k l. t.rest k (le_trans t.inside l) }
 
 pub record Running (items : List Item) (ln : Line) (frozen₀ : List Bool) (targets₀ : List Float) (frozen : List Bool) (targets : List Float) (rounds : ℕ) : Type 0 where
   pub marks : length frozen ≡ length frozen₀

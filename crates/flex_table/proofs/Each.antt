@@ -124,52 +124,21 @@ pub record Turned (n : ℕ) (want : ℕ → Cell) (item : ℕ → Item) (frozen�
   pub flags : (k : ℕ) → i ≤ k → get_or frozen k false ≡ get_or frozen₀ k false
   pub rest : (k : ℕ) → i ≤ k → get_or targets k nan ≡ get_or targets₀ k nan
 
-module _ (n : ℕ) (want : ℕ → Cell) (item : ℕ → Item) (frozen₀ : List Bool) (targets₀ : List Float) where
-  pub turned_none : Turned n want item frozen₀ targets₀ frozen₀ targets₀ 0
-  turned_none = record { inside = zero-le; marks = refl; long = refl; done = below_none (λ (k : ℕ). cell item frozen₀ targets₀ k ≡ want k); flags = λ k h. refl; rest = λ k h. refl }
+module _ {n : ℕ} {want : ℕ → Cell} {item : ℕ → Item} {frozen₀ : List Bool} {targets₀ : List Float} {frozen : List Bool} {targets : List Float} {i : ℕ} (t : Turned n want item frozen₀ targets₀ frozen targets i) where
+  -- a cell of which the target is written
+  pub turned_size : i < n → n ≤ length targets₀ → (x : Float) → put (item i) (get_or frozen₀ i false) x ≡ want i → Turned n want item frozen₀ targets₀ frozen (set targets i x) (i + 1)
+  turned_size h nx x e =
+      let lx : i < length targets = omega (arith, t.long) in
+      record {
+        inside = omega arith;
+        marks = t.marks;
+        long = length-set targets i x ∙ t.long;
+        done = below_more (λ k. cell item frozen (set targets i x) k ≡ want k) i
+            (λ k l. ap (λ y. put (item k) (get_or frozen k false) y) (get_or-set_other targets i k x nan (ne_of_lt l)) ∙ t.done k l)
+            (ap₂ (λ c y. put (item i) c y) (t.flags i (le_refl i)) (get_or-set_same targets i x nan lx) ∙ e);
+        flags = λ k l. t.flags k (omega arith);
+        rest = λ k l. get_or-set_other targets i k x nan (ne_of_gt (lt_of_lt_of_le (lt-add-one i) l)) ∙ t.rest k (le_of_lt (lt_of_lt_of_le (lt-add-one i) l));
+      }
 
-  module _ (frozen : List Bool) (targets : List Float) (i : ℕ) (t : Turned n want item frozen₀ targets₀ frozen targets i) (h : i < n) where
-    -- a cell that stays as it is
-    pub turned_pass : cell item frozen₀ targets₀ i ≡ want i → Turned n want item frozen₀ targets₀ frozen targets (i + 1)
-    turned_pass e = record {
-      inside = omega arith;
-      marks = t.marks;
-      long = t.long;
-      done = below_more (λ (k : ℕ). cell item frozen targets k ≡ want k) i t.done (ap₂ (λ (b : Bool) (x : Float). put (item i) b x) (t.flags i (le_refl i)) (t.rest i (le_refl i)) ∙ e);
-      flags = λ k l. t.flags k (omega arith);
-      rest = λ k l. t.rest k (omega arith);
-    }
-
-    -- a cell of which the target is written
-    pub turned_size : n ≤ length targets₀ → (x : Float) → put (item i) (get_or frozen₀ i false) x ≡ want i → Turned n want item frozen₀ targets₀ frozen (set targets i x) (i + 1)
-    turned_size nx x e =
-        let lx : i < length targets = omega (arith, t.long) in
-        record {
-          inside = omega arith;
-          marks = t.marks;
-          long = length-set targets i x ∙ t.long;
-          done = below_more (λ (k : ℕ). cell item frozen (set targets i x) k ≡ want k) i
-              (λ k l. ap (λ (y : Float). put (item k) (get_or frozen k false) y) (get_or-set_other targets i k x nan (ne_of_lt l)) ∙ t.done k l)
-              (ap₂ (λ (c : Bool) (y : Float). put (item i) c y) (t.flags i (le_refl i)) (get_or-set_same targets i x nan lx) ∙ e);
-          flags = λ k l. t.flags k (omega arith);
-          rest = λ k l. get_or-set_other targets i k x nan (ne_of_gt (lt_of_lt_of_le (lt-add-one i) l)) ∙ t.rest k (le_of_lt (lt_of_lt_of_le (lt-add-one i) l));
-        }
-
-    -- a cell that is written
-    pub turned_next : n ≤ length frozen₀ → n ≤ length targets₀ → (b : Bool) (x : Float) → put (item i) b x ≡ want i → Turned n want item frozen₀ targets₀ (set frozen i b) (set targets i x) (i + 1)
-    turned_next nb nx b x e =
-        let lb : i < length frozen = omega (arith, t.marks) in
-        let lx : i < length targets = omega (arith, t.long) in
-        record {
-          inside = omega arith;
-          marks = length-set frozen i b ∙ t.marks;
-          long = length-set targets i x ∙ t.long;
-          done = below_more (λ (k : ℕ). cell item (set frozen i b) (set targets i x) k ≡ want k) i
-              (λ k l. ap₂ (λ (c : Bool) (y : Float). put (item k) c y) (get_or-set_other frozen i k b false (ne_of_lt l)) (get_or-set_other targets i k x nan (ne_of_lt l)) ∙ t.done k l)
-              (ap₂ (λ (c : Bool) (y : Float). put (item i) c y) (get_or-set_same frozen i b false lb) (get_or-set_same targets i x nan lx) ∙ e);
-          flags = λ k l. get_or-set_other frozen i k b false (ne_of_gt (lt_of_lt_of_le (lt-add-one i) l)) ∙ t.flags k (le_of_lt (lt_of_lt_of_le (lt-add-one i) l));
-          rest = λ k l. get_or-set_other targets i k x nan (ne_of_gt (lt_of_lt_of_le (lt-add-one i) l)) ∙ t.rest k (le_of_lt (lt_of_lt_of_le (lt-add-one i) l));
-        }
-
-  pub turned_all : (frozen : List Bool) (targets : List Float) (i : ℕ) → Turned n want item frozen₀ targets₀ frozen targets i → n ≤ i → each n (cell item frozen targets) ≡ each n want
-  turned_all frozen targets i t h = each_ext n (cell item frozen targets) want (λ k l. t.done k (lt_of_lt_of_le l h))
+  pub turned_all : n ≤ i → each n (cell item frozen targets) ≡ each n want
+  turned_all h = each_ext n (cell item frozen targets) want (λ k l. t.done k (lt_of_lt_of_le l h))

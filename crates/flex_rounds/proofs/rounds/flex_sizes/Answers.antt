@@ -1,8 +1,8 @@
 -- The flexed sizes: the unfrozen cells before i are at theirs, those from i on as they were, and the sum so far is of
 -- the violations before i. Assumes nothing.
 use mathlib.Core.Path.{◌≡◌, sym, ap, ap₂, ◌∙◌}
-use mathlib.Core.Bool.{true, false, cond}
-use native.Mathlib.Nat.{le_trans}
+use mathlib.Core.Bool.{false, cond}
+use Rattle.std.proofs.Common.{rules}
 use lib.ListN.{length}
 use lib.Ieee.{Float}
 use Rattle.grid.specs.Floats.{◌⊖◌}
@@ -13,12 +13,9 @@ use Rattle.flex_table.specs.Table.{item_in}
 use Rattle.flex_rounds.specs.Cells.{cell_at}
 use Rattle.flex.specs.Steps.{sized}
 use Rattle.lists.proofs.Each.{map_each}
-use Rattle.flex_table.proofs.Each.{left-none, left_turn, left_pass, put, turned_none, turned_pass, turned_size}
-use Rattle.flex_table.proofs.Each.{turned_all}
+use Rattle.flex_table.proofs.Each.{left-none, left_turn, left_pass, put, turned_size}
+use Rattle.flex_rounds.proofs.Loop.{rewritten_all}
 use Rattle.flex_rounds.proofs.rounds.flex_sizes.Goals as goal
-
-sized-pass : (sh : Share) (d : Cell) → d.frozen ≡ true → d ≡ sized sh d
-sized-pass sh d e = ap (λ b. put d.item d.frozen (cond b d.target (flexed sh d.item))) (sym e)
 
 sized-next : (sh : Share) (d : Cell) (x : Float) → d.frozen ≡ false → x ≡ flexed sh d.item
     → put d.item d.frozen x ≡ sized sh d
@@ -35,7 +32,7 @@ loop-i-init c =
     let a = c.args in
     let g = cell_at a.items.now a.frozen.now a.targets.now in
     record {
-      turned = turned_none (length a.items.now) (λ k. sized a.sh (g k)) (item_in a.items.now) a.frozen.now a.targets.now;
+      turned = search rules;
       sum_is = sym (left-none (λ d. violation a.sh d.item) g);
     }
 
@@ -45,10 +42,7 @@ loop-i-preserved-then-frozen-i c =
     let l = c.loop-i in
     let g = cell_at a.items.now a.frozen.now a.targets.now in
     record {
-      turned =
-          turned_pass (length a.items.now) (λ k. sized a.sh (g k)) (item_in a.items.now) a.frozen.now a.targets.now
-          a.frozen.now l.targets l.i l.invariant.turned c.loop-i-test.true
-          (sized-pass a.sh (g l.i) c.if-frozen-i.true);
+      turned = search rules;
       sum_is = left_pass (λ d. violation a.sh d.item) g l.i l.sum c.if-frozen-i.true l.invariant.sum_is;
     }
 
@@ -61,8 +55,7 @@ loop-i-preserved c =
     let free = c.if-frozen-i.false in
     record {
       turned =
-          turned_size (length a.items.now) (λ k. sized a.sh (g k)) (item_in a.items.now) a.frozen.now a.targets.now
-          a.frozen.now l.targets l.i l.invariant.turned c.loop-i-test.true c.requires.room f.result
+          turned_size l.invariant.turned c.loop-i-test.true c.requires.room f.result
           (sized-next a.sh (g l.i) f.result free f.ensures);
       sum_is =
           left_turn (λ d. violation a.sh d.item) g l.i l.sum (c.clamped.result ⊖ f.result) free l.invariant.sum_is
@@ -72,13 +65,5 @@ loop-i-preserved c =
 pub returns-clause-rewritten : goal.returns-clause-rewritten
 returns-clause-rewritten c =
     let a = c.args in
-    let l = c.loop-i in
-    let g = cell_at a.items.now a.frozen.now a.targets.now in
-    let t = l.invariant.turned in
-    record {
-      cells_are =
-          turned_all (length a.items.now) (λ k. sized a.sh (g k)) (item_in a.items.now) a.frozen.now a.targets.now
-          a.frozen.now l.targets l.i t c.loop-i-test.false
-          ∙ sym (map_each (sized a.sh) (length a.items.now) g);
-      kept = λ k h. t.rest k (le_trans t.inside h);
-    }
+    rewritten_all (map_each (sized a.sh) (length a.items.now) (cell_at a.items.now a.frozen.now a.targets.now))
+    c.loop-i.invariant.turned c.loop-i-test.false
