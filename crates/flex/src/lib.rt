@@ -41,7 +41,7 @@ pub struct Share {
 }
 
 // Of a line the outer sizes, and of its unfrozen items the factors, the weights and the number.
-#[derive(Clone, Copy)]
+#[derive(Clone, Copy, Default)]
 pub struct Sums {
     pub outer: f32,
     pub factors: f32,

@@ -23,22 +23,24 @@ pub fn space_left(inner: f32, gap: f32, n: usize, outer: f32) -> f32
     inner - (sum_axis_gaps(gap, n) + outer)
 }
 
-// One item more. No entry point.
-pub fn add_up(s: Sums, it: Item, growing: bool, frozen: bool, target: f32) -> Sums
-    requires { s.left ≤ 1024 }
-    ensures { Added growing it frozen target s result }
-{
-    if frozen {
-        return Sums {
-            outer: s.outer + it.outer_size(target),
-            ..s
-        };
-    }
-    Sums {
-        outer: s.outer + it.outer_size(it.base),
-        factors: s.factors + it.factor(growing),
-        weights: s.weights + it.weight(growing),
-        left: s.left + 1,
+impl Sums {
+    // One item more. No entry point.
+    pub fn add_up(self, it: Item, growing: bool, frozen: bool, target: f32) -> Sums
+        requires { self.left ≤ 1024 }
+        ensures { Added growing it frozen target self result }
+    {
+        if frozen {
+            return Sums {
+                outer: self.outer + it.outer_size(target),
+                ..self
+            };
+        }
+        Sums {
+            outer: self.outer + it.outer_size(it.base),
+            factors: self.factors + it.factor(growing),
+            weights: self.weights + it.weight(growing),
+            left: self.left + 1,
+        }
     }
 }
 
@@ -63,15 +65,17 @@ fn limit(initial: f32, factors: f32, free: f32) -> f32
     free
 }
 
-// What a round shares out, from its sums. No entry point.
-pub fn share_of(ln: Line, n: usize, s: Sums) -> Share
-    requires { n ≤ 1024 }
-    ensures { result ≡ share_of ln n s }
-{
-    let space = space_left(ln.inner, ln.gap, n, s.outer);
-    Share {
-        growing: ln.growing,
-        free: limit(ln.initial, s.factors, space),
-        weights: s.weights,
+impl Line {
+    // What a round shares out, from its sums. No entry point.
+    pub fn share_of(self, n: usize, s: Sums) -> Share
+        requires { n ≤ 1024 }
+        ensures { result ≡ share_of self n s }
+    {
+        let space = space_left(self.inner, self.gap, n, s.outer);
+        Share {
+            growing: self.growing,
+            free: limit(self.initial, s.factors, space),
+            weights: s.weights,
+        }
     }
 }

@@ -54,7 +54,7 @@ outer_line gap g a c n h =
     let q = outer_parts gap g a c in
     subst (λ (k : ℕ). outer_sum gap (each c (λ i. g (a + i))) ≤ outer_sum gap (each k g)) e (omega (arith, p, q))
 
-module _ (inner gap : Float) (t : List Item) (n : ℕ) (counts : List ℕ) (targets : List Float) (free : List ℤ) (rounds : List ℕ) (pre : Lined inner gap t n counts targets free rounds) where
+module _ {inner gap : Float} {t : List Item} {n : ℕ} {counts : List ℕ} {targets : List Float} {free : List ℤ} {rounds : List ℕ} (pre : Lined inner gap t n counts targets free rounds) where
   pub accepted_line : (a c : ℕ) → a + c ≤ n → Accepted inner gap (items_in t a c)
   accepted_line a c h = record {
     inner_is = pre.divided.inner_is;
@@ -88,7 +88,7 @@ pub record Going (inner gap : Float) (item : ℕ → Item) (counts : List ℕ) (
 ahead_next : {A : Type 0} (none : A) (k : ℕ) (old new : List A) (v : A) → Ahead none k old new → Ahead none (k + 1) old (set new k v)
 ahead_next none k old new v p = record { long = length-set new k v ∙ p.long; rest = λ j h. get_or-set_other new k j v none (ne_of_gt (omega arith)) ∙ p.rest j (omega arith) }
 
-module _ (inner gap : Float) (item : ℕ → Item) (counts : List ℕ) (targets₀ : List Float) (free₀ : List ℤ) (rounds₀ : List ℕ) where
+module _ {inner gap : Float} {item : ℕ → Item} {counts : List ℕ} {targets₀ : List Float} {free₀ : List ℤ} {rounds₀ : List ℕ} where
   pub going_none : Going inner gap item counts targets₀ free₀ rounds₀ targets₀ free₀ rounds₀ 0 0 0
   going_none = record {
     here = sym (sum-none (λ i. get_or counts i 0));
@@ -104,12 +104,12 @@ module _ (inner gap : Float) (item : ℕ → Item) (counts : List ℕ) (targets�
     };
   }
 
-  module _ (targets : List Float) (free : List ℤ) (rounds : List ℕ) (sum start line : ℕ) (g : Going inner gap item counts targets₀ free₀ rounds₀ targets free rounds sum start line) where
+  module _ {targets : List Float} {free : List ℤ} {rounds : List ℕ} {sum start line : ℕ} (g : Going inner gap item counts targets₀ free₀ rounds₀ targets free rounds sum start line) where
     -- one line more
-    pub going_next : (e : ℕ) (cells : List Float) (f : ℤ) (r : ℕ) → line < length counts → e ≡ start + get_or counts line 0 → e ≤ length targets → line < length free → line < length rounds → length cells ≡ e - start
+    pub going_next : {e : ℕ} {cells : List Float} {f : ℤ} {r : ℕ} → line < length counts → e ≡ start + get_or counts line 0 → e ≤ length targets → line < length free → line < length rounds → length cells ≡ e - start
         → Flexed inner gap (each (get_or counts line 0) (λ i. item (start + i))) f r (mid_of start (e - start) targets) cells
         → Going inner gap item counts targets₀ free₀ rounds₀ (put_mid start (e - start) targets cells) (set free line f) (set rounds line r) (sum + r) e (line + 1)
-    going_next e cells f r h q room lf lr lp p =
+    going_next {e} {cells} {f} {r} h q room lf lr lp p =
         let now' : List Float = put_mid start (e - start) targets cells in
         let free' : List ℤ = set free line f in
         let rounds' : List ℕ = set rounds line r in
@@ -162,13 +162,13 @@ pub record Turn (inner gap : Float) (t : List Item) (start c line sum : ℕ) (ta
   pub rounds_room : line < length rounds
   pub less : sum ≤ start
 
-module _ (inner gap : Float) (t : List Item) (n : ℕ) (counts : List ℕ) (targets₀ : List Float) (free₀ : List ℤ) (rounds₀ : List ℕ) (pre : Lined inner gap t n counts targets₀ free₀ rounds₀) where
-  module _ (targets : List Float) (free : List ℤ) (rounds : List ℕ) (sum start line : ℕ) (g : Going inner gap (item_in t) counts targets₀ free₀ rounds₀ targets free rounds sum start line) (h : line < length counts) where
+module _ {inner gap : Float} {t : List Item} {n : ℕ} {counts : List ℕ} {targets₀ : List Float} {free₀ : List ℤ} {rounds₀ : List ℕ} (pre : Lined inner gap t n counts targets₀ free₀ rounds₀) where
+  module _ {targets : List Float} {free : List ℤ} {rounds : List ℕ} {sum start line : ℕ} (g : Going inner gap (item_in t) counts targets₀ free₀ rounds₀ targets free rounds sum start line) (h : line < length counts) where
     pub turn_of : Turn inner gap t start (get_or counts line 0) line sum targets free rounds
     turn_of =
         let c = get_or counts line 0 in
-        let l = lines_within inner gap t n counts targets₀ free₀ rounds₀ pre in
-        let ends : start + c ≤ n = subst (λ k. k + c ≤ n) (sym g.here) (line_ends inner gap t n counts targets₀ free₀ rounds₀ pre line h) in
+        let l = lines_within pre in
+        let ends : start + c ≤ n = subst (λ k. k + c ≤ n) (sym g.here) (line_ends pre line h) in
         let k : start + c - start ≡ c = omega arith in
         let e = ap (λ i. take i (drop start t)) k ∙ part_items t start c (omega (arith, pre.divided.wide.1)) in
         record {
@@ -176,7 +176,7 @@ module _ (inner gap : Float) (t : List Item) (n : ℕ) (counts : List ℕ) (targ
           few = omega (arith, pre.divided.wide.0);
           part_is = e;
           part_long = ap length e ∙ length-each c (λ i. item_in t (start + i));
-          accepted = subst (Accepted inner gap) (sym e) (accepted_line inner gap t n counts targets₀ free₀ rounds₀ pre start c ends);
+          accepted = subst (Accepted inner gap) (sym e) (accepted_line pre start c ends);
           room = omega (arith, pre.divided.room, g.flowed.long);
           free_room = omega (arith, l, pre.divided.free_room, g.flowed.free_past.long);
           rounds_room = omega (arith, l, pre.divided.rounds_room, g.flowed.rounds_past.long);

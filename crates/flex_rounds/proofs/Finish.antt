@@ -33,7 +33,7 @@ drop-kept n old new e h =
 abbrev pub line_from : Float → Float → Float → Bool → Line
 line_from inner gap initial growing = record { inner = inner; gap = gap; initial = initial; growing = growing }
 
-module _ (items : List Item) (inner gap : Float) (free : ℤ) (growing : Bool) (targets₀ : List Float) (frozen₁ : List Bool) (targets₁ : List Float) (s : Sums) (initial : Float) (rounds : ℕ) (frozen₂ : List Bool) (targets₂ targets₃ : List Float)
+module _ {items : List Item} {inner gap : Float} {free : ℤ} {growing : Bool} {targets₀ : List Float} {frozen₁ : List Bool} {targets₁ : List Float} {s : Sums} {initial : Float} {rounds : ℕ} {frozen₂ : List Bool} {targets₂ targets₃ : List Float}
     (ef : free ≡ free_before inner gap items) (eg : growing ≡ grows inner gap items) (w : Rewritten items (map (start_cell growing) items) targets₀ frozen₁ targets₁)
     (u : Summed growing (cells_of items frozen₁ targets₁) s) (q : initial ≡ space_left inner gap (length items) s.outer) (r : Ran items (line_from inner gap initial growing) rounds frozen₁ targets₁ frozen₂ targets₂)
     (tidied : targets₃ ≡ map cleaned (take (length items) targets₂) ++ drop (length items) targets₂) (room : length items ≤ length targets₀) (long : length targets₂ ≡ length targets₀) where

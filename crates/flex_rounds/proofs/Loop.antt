@@ -11,7 +11,7 @@ use lib.Ieee.{Float}
 use Rattle.flex.specs.declared.Item.{Item}
 use Rattle.flex.specs.declared.Line.{Line}
 use Rattle.flex.specs.Flex.{Cell, unfrozen, round, after}
-use Rattle.flex_rounds.specs.Cells.{cell_at, cells_of, Untouched, Rewritten, Ran}
+use Rattle.flex_rounds.specs.Cells.{cell_at, cells_of, Untouched, Rewritten}
 use Rattle.lists.specs.Cells.{each}
 use Rattle.lists.proofs.Each.{length-each}
 use Rattle.flex_table.specs.Table.{item_in}
@@ -30,35 +30,29 @@ pub record Running (items : List Item) (ln : Line) (frozen₀ : List Bool) (targ
   pub needed : (k : ℕ) → k < rounds → 0 < unfrozen (after ln k (cells_of items frozen₀ targets₀))
   pub kept : Untouched (length items) targets₀ targets
 
-module _ (items : List Item) (ln : Line) (frozen₀ : List Bool) (targets₀ : List Float) where
-  pub running_none : Running items ln frozen₀ targets₀ frozen₀ targets₀ 0
+pub running_none : {items : List Item} {ln : Line} {frozen : List Bool} {targets : List Float} → Running items ln frozen targets frozen targets 0
+unfolding after
+running_none {items} {ln} {frozen} {targets} = record { marks = refl; long = refl; cells_are = refl; needed = below_none (λ k. 0 < unfrozen (after ln k (cells_of items frozen targets))); kept = λ k h. refl }
+
+module _ {items : List Item} {ln : Line} {frozen₀ : List Bool} {targets₀ : List Float} {frozen : List Bool} {targets : List Float} {rounds : ℕ} (r : Running items ln frozen₀ targets₀ frozen targets rounds) where
+  pub running_next : {frozen' : List Bool} {targets' : List Float} → 0 < unfrozen (cells_of items frozen targets) → length frozen' ≡ length frozen → length targets' ≡ length targets
+      → Rewritten items (round ln (cells_of items frozen targets)) targets frozen' targets' → Running items ln frozen₀ targets₀ frozen' targets' (rounds + 1)
   unfolding after
-  running_none = record { marks = refl; long = refl; cells_are = refl; needed = below_none (λ k. 0 < unfrozen (after ln k (cells_of items frozen₀ targets₀))); kept = λ k h. refl }
+  running_next h m e w = record {
+    marks = m ∙ r.marks;
+    long = e ∙ r.long;
+    cells_are = w.cells_are ∙ ap (round ln) r.cells_are ∙ ap (λ k. after ln k (cells_of items frozen₀ targets₀)) (sym (add-one rounds));
+    needed = below_more (λ k. 0 < unfrozen (after ln k (cells_of items frozen₀ targets₀))) rounds r.needed (subst (λ l. 0 < unfrozen l) r.cells_are h);
+    kept = λ k l. w.kept k l ∙ r.kept k l;
+  }
 
-  module _ (frozen : List Bool) (targets : List Float) (rounds : ℕ) (r : Running items ln frozen₀ targets₀ frozen targets rounds) where
-    pub running_next : (frozen' : List Bool) (targets' : List Float) → 0 < unfrozen (cells_of items frozen targets) → length frozen' ≡ length frozen → length targets' ≡ length targets
-        → Rewritten items (round ln (cells_of items frozen targets)) targets frozen' targets' → Running items ln frozen₀ targets₀ frozen' targets' (rounds + 1)
-    unfolding after
-    running_next frozen' targets' h m e w = record {
-      marks = m ∙ r.marks;
-      long = e ∙ r.long;
-      cells_are = w.cells_are ∙ ap (round ln) r.cells_are ∙ ap (λ k. after ln k (cells_of items frozen₀ targets₀)) (sym (add-one rounds));
-      needed = below_more (λ k. 0 < unfrozen (after ln k (cells_of items frozen₀ targets₀))) rounds r.needed (subst (λ l. 0 < unfrozen l) r.cells_are h);
-      kept = λ k l. w.kept k l ∙ r.kept k l;
-    }
+  -- with the items left, the rounds are at most the items
+  pub running_few : rounds + unfrozen (cells_of items frozen targets) ≤ length items
+  running_few =
+      le_trans {m = rounds + unfrozen (after ln rounds (cells_of items frozen₀ targets₀))} (le_of_eq (ap (λ l. rounds + unfrozen l) r.cells_are))
+      (subst (λ m. rounds + unfrozen (after ln rounds (cells_of items frozen₀ targets₀)) ≤ m) (length-each (length items) (cell_at items frozen₀ targets₀)) (rounds_left ln (cells_of items frozen₀ targets₀) rounds r.needed))
 
-    -- with the items left, the rounds are at most the items
-    pub running_few : rounds + unfrozen (cells_of items frozen targets) ≤ length items
-    running_few =
-        le_trans {m = rounds + unfrozen (after ln rounds (cells_of items frozen₀ targets₀))} (le_of_eq (ap (λ l. rounds + unfrozen l) r.cells_are))
-        (subst (λ m. rounds + unfrozen (after ln rounds (cells_of items frozen₀ targets₀)) ≤ m) (length-each (length items) (cell_at items frozen₀ targets₀)) (rounds_left ln (cells_of items frozen₀ targets₀) rounds r.needed))
-
-    pub running_done : 0 ≡ unfrozen (cells_of items frozen targets) → Ran items ln rounds frozen₀ targets₀ frozen targets
-    running_done h = record {
-      number = record { needed = r.needed; over = ap unfrozen (sym r.cells_are) ∙ sym h };
-      written = record { cells_are = r.cells_are; kept = r.kept };
-    }
-
-pub running_less : (items : List Item) (ln : Line) (frozen : List Bool) (targets : List Float) (frozen' : List Bool) (targets' : List Float) → 0 < unfrozen (cells_of items frozen targets)
-    → Rewritten items (round ln (cells_of items frozen targets)) targets frozen' targets' → unfrozen (cells_of items frozen' targets') < unfrozen (cells_of items frozen targets)
-running_less items ln frozen targets frozen' targets' h w = subst (λ l. unfrozen l < unfrozen (cells_of items frozen targets)) (sym w.cells_are) (falls ln (cells_of items frozen targets) h)
+  -- a round leaves fewer
+  pub running_less : {frozen' : List Bool} {targets' : List Float} → 0 < unfrozen (cells_of items frozen targets) → Rewritten items (round ln (cells_of items frozen targets)) targets frozen' targets'
+      → unfrozen (cells_of items frozen' targets') < unfrozen (cells_of items frozen targets)
+  running_less h w = subst (λ l. unfrozen l < unfrozen (cells_of items frozen targets)) (sym w.cells_are) (falls ln (cells_of items frozen targets) h)

@@ -6,7 +6,6 @@ ghost use Rattle.flex.specs.Flex.{total, left, violation, round};
 ghost use Rattle.flex.specs.Steps.{Summed, sized, settled};
 ghost use Rattle.flex_rounds.specs.Cells.{cells_of, LineRoom, Rewritten};
 
-use flex::sharing::{add_up, share_of};
 use flex::sizes::is_frozen;
 use flex::{Item, Line, Share, Sums};
 
@@ -16,14 +15,9 @@ pub fn sum_up(items: &[Item], growing: bool, frozen: &[bool], targets: &[f32]) -
     requires { LineRoom items.now frozen.now targets.now }
     ensures { Summed growing (cells_of items.now frozen.now targets.now) result }
 {
-    let mut s = Sums {
-        outer: 0.0,
-        factors: 0.0,
-        weights: 0.0,
-        left: 0,
-    };
+    let mut s = Sums::default();
     for (i, &it) in items.iter().enumerate() {
-        s = add_up(s, it, growing, frozen[i], targets[i]);
+        s = s.add_up(it, growing, frozen[i], targets[i]);
     }
     s
 }
@@ -74,7 +68,7 @@ pub fn one_round(items: &[Item], ln: Line, s: Sums, frozen: &mut [bool], targets
     ensures { Rewritten items.now (round ln (cells_of items.now frozen.old targets.old))
         targets.old frozen.new targets.new }
 {
-    let sh = share_of(ln, items.len(), s);
+    let sh = ln.share_of(items.len(), s);
     let sum = flex_sizes(items, sh, frozen, targets);
     settle_all(items, sum, frozen, targets);
 }

@@ -2,7 +2,7 @@
 use mathlib.Core.Path.{◌≡◌, refl, sym, ap, ap₂, ◌∙◌}
 use mathlib.Core.Bool.{Bool, true, false, cond}
 use mathlib.Core.List.{List, [], ◌∷◌, ◌++◌, append-nil}
-use Prim.Native.Nat.{ℕ, ◌+◌, ◌≤◌, ◌<◌, zero-le}
+use Prim.Native.Nat.{ℕ, ◌+◌, ◌≤◌, ◌<◌}
 use native.Mathlib.Nat.{le_refl, le_of_lt, lt_of_lt_of_le, ne_of_lt, ne_of_gt}
 use native.Mathlib.Numerals.{add-one, lt-add-one}
 use native.Mathlib.Omega.{arith}
@@ -11,7 +11,7 @@ use lib.Seq.{get_or-set_same, get_or-set_other, take-suc}
 use lib.IntN.{nat_abs}
 use lib.Ieee.{Float, nan}
 use Rattle.grid.specs.Grid.{sixty_fourths}
-use borrow.Author.Count.{below_none, below_more}
+use borrow.Author.Count.{below_more}
 use Rattle.flex.specs.declared.Item.{Item}
 use Rattle.lists.specs.Cells.{each}
 use Rattle.lists.proofs.Each.{each_ext}

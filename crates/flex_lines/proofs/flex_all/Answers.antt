@@ -5,20 +5,14 @@ use Rattle.flex_lines.proofs.flex_all.Goals as goal
 
 pub clear-requires : goal.clear-requires
 clear-requires c =
-    let a = c.args in
-    let w = lines_within a.inner a.gap a.items.now _ a.counts.now a.targets.now a.free.now a.rounds.now c.requires in
-    (w, omega (arith, c.flex_each-sum.ensures.free_past.long, c.requires.divided.free_room))
+    (lines_within c.requires, omega (arith, c.flex_each-sum.ensures.free_past.long, c.requires.divided.free_room))
 
 pub clear-requires-2 : goal.clear-requires-2
 clear-requires-2 c =
-    let a = c.args in
-    let w = lines_within a.inner a.gap a.items.now _ a.counts.now a.targets.now a.free.now a.rounds.now c.requires in
-    (w, omega (arith, c.flex_each-sum.ensures.rounds_past.long, c.requires.divided.rounds_room))
+    (lines_within c.requires, omega (arith, c.flex_each-sum.ensures.rounds_past.long, c.requires.divided.rounds_room))
 
 pub returns : goal.returns
 returns c =
-    let a = c.args in
     let d = c.requires.divided in
-    lines_flexed d.whole
-    (lines_within a.inner a.gap a.items.now _ a.counts.now a.targets.now a.free.now a.rounds.now c.requires)
-    d.free_room d.rounds_room c.flex_each-sum.ensures c.clear.ensures c.clear-2.ensures
+    lines_flexed d.whole (lines_within c.requires) d.free_room d.rounds_room c.flex_each-sum.ensures c.clear.ensures
+    c.clear-2.ensures

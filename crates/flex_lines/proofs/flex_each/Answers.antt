@@ -12,16 +12,10 @@ use Rattle.flex_lines.proofs.flex_each.Goals as goal
 use Rattle.flex_lines.proofs.flex_each.Goals.{In-loop-line}
 
 turn : (c : In-loop-line) → c.loop-line.line < length c.args.counts.now → let a = c.args in let l = c.loop-line in Turn a.inner a.gap a.items.now l.start (get_or a.counts.now l.line 0) l.line l.sum l.targets l.free l.rounds
-turn c h =
-    let a = c.args in
-    let l = c.loop-line in
-    turn_of a.inner a.gap a.items.now (length a.items.now) a.counts.now a.targets.now a.free.now a.rounds.now c.requires
-    l.targets l.free l.rounds l.sum l.start l.line l.invariant h
+turn c h = turn_of c.requires c.loop-line.invariant h
 
 pub loop-line-init : goal.loop-line-init
-loop-line-init c =
-    let a = c.args in
-    going_none a.inner a.gap (item_in a.items.now) a.counts.now a.targets.now a.free.now a.rounds.now
+loop-line-init c = going_none
 
 pub overflow_add-end : goal.overflow_add-end
 overflow_add-end c = omega (arith, (turn (goal.at.overflow_add-end c).In-loop-line c.loop-line-test.true).few)
@@ -64,7 +58,7 @@ loop-line-preserved c =
     (put_mid l.start (e - l.start) l.targets f.new.targets) (set l.free l.line x) (set l.rounds l.line f.result.rounds)
     (l.sum + f.result.rounds) e (l.line + 1))
     (sym (free_bits a.inner a.gap _ t.accepted f.result.free.0 f.ensures.space))
-    (going_next a.inner a.gap (item_in a.items.now) a.counts.now a.targets.now a.free.now a.rounds.now l.targets l.free
-    l.rounds l.sum l.start l.line l.invariant e f.new.targets f.result.free.0 f.result.rounds c.loop-line-test.true
-    refl t.room t.free_room t.rounds_room (f.auto.targets ∙ mid_len l.start e l.targets t.room)
-    (subst (λ items. Flexed a.inner a.gap items f.result.free.0 f.result.rounds (mid_of l.start (e - l.start) l.targets) f.new.targets) t.part_is f.ensures))
+    (going_next l.invariant c.loop-line-test.true refl t.room t.free_room t.rounds_room
+    (f.auto.targets ∙ mid_len l.start e l.targets t.room)
+    (subst (λ items. Flexed a.inner a.gap items f.result.free.0 f.result.rounds
+    (mid_of l.start (e - l.start) l.targets) f.new.targets) t.part_is f.ensures))

@@ -9,12 +9,9 @@ use Rattle.flex_rounds.proofs.line.flex_marked.Goals as goal
 
 pub returns : goal.returns
 returns c =
-    let a = c.args in
     let f = c.free_before-free in
-    let b = c.begin in
     let r = c.run_rounds-rounds in
-    finish a.items.now a.inner a.gap f.result.0 c.is_growing-growing.result a.targets.now b.new.frozen b.new.targets
-    c.sum_up-s.result c.space_left.result r.result r.new.frozen r.new.targets _ f.ensures
-    (c.is_growing-growing.ensures ∙ ap (lt_z (pos 0)) f.ensures) b.ensures c.sum_up-s.ensures c.space_left.ensures
-    r.ensures (ap (λ l. l ++ drop (length a.items.now) r.new.targets) c.tidy.ensures) c.requires.0.room
-    (r.auto.targets ∙ b.auto.targets)
+    finish f.ensures (c.is_growing-growing.ensures ∙ ap (lt_z (pos 0)) f.ensures) c.begin.ensures c.sum_up-s.ensures
+    c.space_left.ensures r.ensures
+    (ap (λ l. l ++ drop (length c.args.items.now) r.new.targets) c.tidy.ensures) c.requires.0.room
+    (r.auto.targets ∙ c.begin.auto.targets)

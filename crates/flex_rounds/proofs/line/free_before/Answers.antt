@@ -20,8 +20,8 @@ use Rattle.flex_rounds.proofs.line.free_before.Goals as goal
 abbrev bits : ℤ → ℤ
 bits z = to_z w32 (of_z w32 z)
 
-module _ (items : List Item) (inner gap : Float) (few : length items ≤ 1024)
-    (ok : Accepted inner gap items) (x y : Float) (p : x ≡ gaps gap (length items))
+module _ {items : List Item} {inner gap : Float} (few : length items ≤ 1024)
+    (ok : Accepted inner gap items) {x y : Float} (p : x ≡ gaps gap (length items))
     (q : y ≡ total (λ it. outer it (hypothetical it)) items) where
   -- the used space that the code works out
   used_is : Length (x ⊕ y) × (sixty_fourths (x ⊕ y) ≡ used_units gap items)
@@ -30,28 +30,22 @@ module _ (items : List Item) (inner gap : Float) (few : length items ≤ 1024)
       let e = ap₂ (λ a b. a ⊕ b) p q in
       (subst (λ z. Length z) (sym e) r.0, ap sixty_fourths e ∙ r.1)
 
-  both : (a b : ℤ) → a ≡ sixty_fourths inner → b ≡ sixty_fourths (x ⊕ y)
+  both : {a b : ℤ} → a ≡ sixty_fourths inner → b ≡ sixty_fourths (x ⊕ y)
       → SFits w32 (bits a -ℤ bits b) × (bits (bits a -ℤ bits b) ≡ free_before inner gap items)
-  both a b ea eb =
+  both {a} {b} ea eb =
       subtracted a b (sixty_fourths inner) (used_units gap items) ea (eb ∙ used_is.1) ok.inner_is.small
       (subst (λ (z : ℤ). nat_abs z ≤ 16777216) used_is.1 used_is.0.small)
 
 pub to_sixtyfourths-b-requires : goal.to_sixtyfourths-b-requires
 to_sixtyfourths-b-requires c =
-    let a = c.args in
-    (used_is a.items.now a.inner a.gap c.requires.0 c.requires.1 c.sum_axis_gaps.result
-    c.hypothetical_sum.result c.sum_axis_gaps.ensures c.hypothetical_sum.ensures).0
+    (used_is c.requires.0 c.requires.1 c.sum_axis_gaps.ensures c.hypothetical_sum.ensures).0
 
 pub overflow_sub-result : goal.overflow_sub-result
 overflow_sub-result c =
-    let a = c.args in
-    (both a.items.now a.inner a.gap c.requires.0 c.requires.1 c.sum_axis_gaps.result
-    c.hypothetical_sum.result c.sum_axis_gaps.ensures c.hypothetical_sum.ensures c.to_sixtyfourths-a.result.0
-    c.to_sixtyfourths-b.result.0 c.to_sixtyfourths-a.ensures c.to_sixtyfourths-b.ensures).0
+    (both c.requires.0 c.requires.1 c.sum_axis_gaps.ensures c.hypothetical_sum.ensures c.to_sixtyfourths-a.ensures
+    c.to_sixtyfourths-b.ensures).0
 
 pub returns : goal.returns
 returns c =
-    let a = c.args in
-    (both a.items.now a.inner a.gap c.requires.0 c.requires.1 c.sum_axis_gaps.result
-    c.hypothetical_sum.result c.sum_axis_gaps.ensures c.hypothetical_sum.ensures c.to_sixtyfourths-a.result.0
-    c.to_sixtyfourths-b.result.0 c.to_sixtyfourths-a.ensures c.to_sixtyfourths-b.ensures).1
+    (both c.requires.0 c.requires.1 c.sum_axis_gaps.ensures c.hypothetical_sum.ensures c.to_sixtyfourths-a.ensures
+    c.to_sixtyfourths-b.ensures).1

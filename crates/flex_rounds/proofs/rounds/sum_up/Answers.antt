@@ -1,7 +1,7 @@
 -- The sums of a round: those so far are of the first i cells, and a turn adds one. Assumes nothing.
 use mathlib.Core.Path.{◌≡◌, refl, sym, ◌∙◌}
 use mathlib.Core.Bool.{Bool, true, false, cond}
-use Prim.Native.Nat.{ℕ, ◌+◌, ◌≤◌, zero-le}
+use Prim.Native.Nat.{ℕ, ◌+◌, ◌≤◌}
 use native.Mathlib.Omega.{arith}
 use Rattle.lists.specs.Cells.{each}
 use Rattle.flex.specs.declared.Sums.{Sums}
@@ -29,13 +29,14 @@ pub loop-i-init : goal.loop-i-init
 loop-i-init c =
     let a = c.args in
     let g = cell_at a.items.now a.frozen.now a.targets.now in
+    let e = c.default-s.ensures in
     record {
-      few = zero-le;
+      few = omega arith;
       summed = record {
-        outer = sym (total-none outer_now g);
-        factors = sym (left-none (λ d. factor a.growing d.item) g);
-        weights = sym (left-none (λ d. weight a.growing d.item) g);
-        number = sym (unfrozen-none g);
+        outer = e.0 ∙ sym (total-none outer_now g);
+        factors = e.1.0 ∙ sym (left-none (λ d. factor a.growing d.item) g);
+        weights = e.1.1.0 ∙ sym (left-none (λ d. weight a.growing d.item) g);
+        number = e.1.1.1 ∙ sym (unfrozen-none g);
       };
     }
 
