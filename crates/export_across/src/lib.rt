@@ -8,6 +8,8 @@ ghost use Rattle.place_across_call.specs.AcrossCall.{across_call};
 ghost use Rattle.export_across.specs.Placed.{c_across, across_from_c};
 
 use export_answer::CAnswer;
+use place_cross::{AcrossCells, AcrossLists};
+use place_size::CrossLists;
 
 #[unsafe(no_mangle)]
 pub extern "C" fn fratolivem_place_across<'a>(
@@ -36,23 +38,27 @@ pub extern "C" fn fratolivem_place_across<'a>(
         auto_end.now) align_self.now auto_size.now sizes.old
         used_start.old used_end.old offsets.old) }
 {
-    export_answer::to_c(place_across_call::place_across(
-        line,
-        reversed,
+    let cross = CrossLists {
         measured,
         minimum,
         maximum,
-        has_maximum,
+        capped: has_maximum,
         edges,
         start,
         end,
         auto_start,
         auto_end,
-        align_self,
+    };
+    let items = AcrossLists {
+        cross,
+        alignment: align_self,
         auto_size,
+    };
+    let cells = &mut AcrossCells {
         sizes,
         used_start,
         used_end,
         offsets,
-    ))
+    };
+    place_across_call::place_across(line, reversed, items, cells).into()
 }

@@ -3,7 +3,7 @@
 use mathlib.Core.Path.{◌≡◌, sym, ap, ◌∙◌}
 use mathlib.Core.List.{List}
 use lib.Ieee.{Float}
-use Rattle.place_size_call.specs.declared.SizeAnswer.{SizeAnswer}
+use Rattle.place_size_call.specs.SizeCall.{SizeAnswer}
 use Rattle.place_lines_call.specs.LinesCall.{LinesResult}
 use Rattle.export_lines.specs.declared.CSized.{CSized}
 use Rattle.export_lines.specs.Sized.{c_line, CAligned, c_aligned, lines_from_c}

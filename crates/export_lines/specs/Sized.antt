@@ -4,11 +4,9 @@ use Rattle.std.specs.Prelude.{List, Float}
 use Rattle.std.specs.Float.{binary32}
 use Rattle.std.specs.Float.Ieee.{of_bits}
 use Rattle.checks.specs.Domain.{refusal_of}
-use Rattle.place_size_call.specs.declared.SizeAnswer.{SizeAnswer}
-use Rattle.place_size_call.specs.declared.SizeAnswer.TheVariants as size
-use Rattle.place_lines_call.specs.declared.LinesAnswer.{LinesAnswer}
-use Rattle.place_lines_call.specs.declared.LinesAnswer.TheVariants as lines
-use Rattle.place_lines_call.specs.LinesCall.{LinesResult}
+use Rattle.std.specs.declared.result.Result.TheVariants.{Ok, Err}
+use Rattle.place_size_call.specs.SizeCall.{SizeAnswer}
+use Rattle.place_lines_call.specs.LinesCall.{LinesAnswer, LinesResult}
 use Rattle.export_answer.specs.declared.CAnswer.{CAnswer}
 use Rattle.export_answer.specs.Crossing.{crossed}
 use Rattle.export_lines.specs.declared.CSized.{CSized}
@@ -24,13 +22,12 @@ c_nothing r = record { number = r.number; at = r.at; place = r.place; size = of_
 
 -- a line's cross size
 abbrev pub c_line : SizeAnswer → CSized
-c_line (size.Sized x) = c_size x
-c_line (size.Refused why) = c_nothing (crossed (refusal_of why))
+c_line (Ok x) = c_size x
+c_line (Err why) = c_nothing (crossed (refusal_of why))
 
 -- a container's inner cross size
 abbrev pub c_lines : LinesAnswer → CSized
-c_lines (lines.Placed x) = c_size x
-c_lines (lines.Refused why) = c_nothing (crossed (refusal_of why))
+c_lines told = c_line told
 
 -- ---- a container's lines
 

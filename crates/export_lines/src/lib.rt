@@ -6,12 +6,12 @@ ghost use Rattle.std.specs.Prelude.{◌≡◌};
 ghost use Rattle.place_size.specs.CrossSize.{cross_lists};
 ghost use Rattle.place_size_call.specs.SizeCall.{size_call};
 ghost use Rattle.place_lines_call.specs.LinesCall.{lines_call};
-ghost use Rattle.export_lines.specs.Sized.{c_size, c_nothing, c_line, c_lines, c_aligned, lines_from_c};
+ghost use Rattle.export_lines.specs.Sized.{c_line, c_aligned, lines_from_c};
 
+use checks::Refusal;
 use export_answer::CAnswer;
 use place_checks::numbers::CrossNumbers;
-use place_lines_call::LinesAnswer;
-use place_size_call::SizeAnswer;
+use place_size::CrossLists;
 
 // Number and place as in CAnswer; then a line's cross size, or the container's inner one. It is 0.0 on refusal.
 #[repr(C)]
@@ -23,43 +23,27 @@ pub struct CSized {
     pub size: f32,
 }
 
-fn sized(size: f32) -> CSized
-    ensures { result ≡ c_size size }
-{
-    CSized {
-        number: 0,
-        at: 0,
-        place: 0,
-        size,
-    }
-}
+impl From<Result<f32, Refusal>> for CSized {
+    ghost from_gives = { λ told sized. sized ≡ c_line told };
 
-fn nothing(r: CAnswer) -> CSized
-    ensures { result ≡ c_nothing r }
-{
-    CSized {
-        number: r.number,
-        at: r.at,
-        place: r.place,
-        size: 0.0,
-    }
-}
-
-fn line_to_c(a: SizeAnswer) -> CSized
-    ensures { result ≡ c_line a }
-{
-    match a {
-        SizeAnswer::Sized(size) => sized(size),
-        SizeAnswer::Refused(why) => nothing(export_answer::refusal_to_c(why)),
-    }
-}
-
-fn lines_to_c(a: LinesAnswer) -> CSized
-    ensures { result ≡ c_lines a }
-{
-    match a {
-        LinesAnswer::Placed(inner) => sized(inner),
-        LinesAnswer::Refused(why) => nothing(export_answer::refusal_to_c(why)),
+    fn from(told: Result<f32, Refusal>) -> CSized {
+        match told {
+            Ok(size) => CSized {
+                number: 0,
+                at: 0,
+                place: 0,
+                size,
+            },
+            Err(why) => {
+                let told = CAnswer::from(why);
+                CSized {
+                    number: told.number,
+                    at: told.at,
+                    place: told.place,
+                    size: 0.0,
+                }
+            }
+        }
     }
 }
 
@@ -82,18 +66,18 @@ pub extern "C" fn fratolivem_line_size<'a>(
         has_maximum.now edges.now start.now end.now
         auto_start.now auto_end.now)) }
 {
-    line_to_c(place_size_call::size_line(
-        c,
+    let items = CrossLists {
         measured,
         minimum,
         maximum,
-        has_maximum,
+        capped: has_maximum,
         edges,
         start,
         end,
         auto_start,
         auto_end,
-    ))
+    };
+    place_size_call::size_line(c, items).into()
 }
 
 // The lines of a container: their sizes stretched, their offsets, and the container's inner cross size. An item of its
@@ -109,5 +93,5 @@ pub extern "C" fn fratolivem_place_lines(
     ensures { c_aligned result sizes.new offsets.new
         ≡ lines_from_c (lines_call c align_content lines.now sizes.old offsets.old) }
 {
-    lines_to_c(place_lines_call::place_lines(c, align_content, lines, sizes, offsets))
+    place_lines_call::place_lines(c, align_content, lines, sizes, offsets).into()
 }

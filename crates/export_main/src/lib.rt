@@ -8,6 +8,8 @@ ghost use Rattle.place_main.specs.MainCall.{main_call};
 ghost use Rattle.export_main.specs.Placed.{c_main, main_from_c};
 
 use export_answer::CAnswer;
+use place_main::LineLists;
+use place_main::main_call::place_main;
 
 #[unsafe(no_mangle)]
 pub extern "C" fn fratolivem_place_main<'a>(
@@ -29,8 +31,15 @@ pub extern "C" fn fratolivem_place_main<'a>(
         end.now auto_start.now auto_end.now) offsets.old
         used_start.old used_end.old) }
 {
-    export_answer::to_c(place_main::main_call::place_main(
-        inner, gap, justify, reversed, targets, start, end, auto_start, auto_end, offsets,
-        used_start, used_end,
-    ))
+    let items = LineLists {
+        targets,
+        start,
+        end,
+        auto_start,
+        auto_end,
+    };
+    place_main(
+        inner, gap, justify, reversed, items, offsets, used_start, used_end,
+    )
+    .into()
 }

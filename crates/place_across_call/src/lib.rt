@@ -6,7 +6,7 @@ ghost use Rattle.checks.specs.Domain.{checked};
 ghost use Rattle.checks.specs.Shapes.{shape_of};
 ghost use Rattle.place_size.specs.CrossSize.{count};
 ghost use Rattle.place_size.specs.Lists.{lists_of};
-ghost use Rattle.place_cross.specs.Parts.{SameLengths};
+ghost use Rattle.place_cross.specs.Parts.{SameLengths, SameCells};
 ghost use Rattle.place_across_call.specs.AcrossCall.{across_input, lengths, across_result, across_call};
 
 use checks::shapes::check_lists;
@@ -63,10 +63,11 @@ pub fn place_across(
     items: AcrossLists,
     cells: &mut AcrossCells,
 ) -> Result<Done, Refusal>
-    ensures { across_result result cells.new.sizes.now cells.new.used_start.now cells.new.used_end.now
+    ensures answer { across_result result cells.new.sizes.now cells.new.used_start.now cells.new.used_end.now
         cells.new.offsets.now ≡ across_call line reversed (lists_of items.entry.cross) items.entry.alignment.now
         items.entry.auto_size.now cells.old.sizes.now cells.old.used_start.now cells.old.used_end.now
         cells.old.offsets.now }
+    ensures same_cells { SameCells cells.old cells.new }
 {
     check_across_shape(items, cells)?;
     check_across_numbers(line, reversed, items)?;
