@@ -1,5 +1,4 @@
-// The calls that flex, for a host in C or C++ (include/fratolivem.h). Each is the call inside it, and takes any bits. C
-// has the lists one by one, and they go into one bundle here.
+// The calls that flex, for a host in C or C++ (include/fratolivem.h). Each is the call inside it, and takes any bits.
 #![tactic(auto)]
 
 ghost use Rattle.std.specs.Prelude.{◌≡◌};
@@ -50,6 +49,7 @@ impl From<Result<Flexing, Refusal>> for CFlexed {
     }
 }
 
+// C passes each list by itself; they go into one bundle here.
 #[unsafe(no_mangle)]
 pub extern "C" fn fratolivem_flex_line<'a>(
     inner: f32,
@@ -88,6 +88,7 @@ pub extern "C" fn fratolivem_flex_line<'a>(
     flex_line_call::flex_line(inner, gap, items, targets).into()
 }
 
+// C passes each list by itself here too.
 #[unsafe(no_mangle)]
 pub extern "C" fn fratolivem_flex_lines<'a>(
     inner: f32,

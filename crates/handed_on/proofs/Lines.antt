@@ -11,11 +11,10 @@ use lib.Seq.{get_or-take, get_or-drop}
 use lib.IntN.{ℤ}
 use lib.Ieee.{Float, nan}
 use Rattle.grid.specs.Grid.{cleaned}
-use Rattle.checks.specs.Domain.{float, summed, checked}
+use Rattle.checks.specs.Domain.{float, summed, checked, done}
 use Rattle.checks.specs.Marks.{Fine}
 use Rattle.checks.specs.declared.Kind.TheVariants as kind
-use Rattle.checks.specs.declared.Verdict.TheVariants.{Passed}
-use Rattle.checks.specs.declared.Answer.TheVariants.{Done}
+use Rattle.std.specs.declared.result.Result.TheVariants.{Ok}
 use Rattle.checks.proofs.Checks.{accepted, then_passed}
 use Rattle.lists.specs.Cells.{sum_up_to, each}
 use Rattle.lists.specs.ByLine.{line_start, Division}
@@ -111,7 +110,7 @@ module _ (inner gap : Float) (item : ℕ → Item) (n : ℕ) (counts : List ℕ)
 
 -- the targets that an accepted call writes are numbers that a later step takes
 module _ (inner gap : Float) (counts : List ℕ) (ls : Lists) (grow : Singles ls.grow (count ls)) (shrink : Singles ls.shrink (count ls)) where
-  whole_is : (room : ℕ) → lines_verdict inner gap counts ls room ≡ Passed → IsLine (cleaned inner) (cleaned gap) (items_of ls) × Division counts (count ls)
+  whole_is : (room : ℕ) → lines_verdict inner gap counts ls room ≡ Ok tt → IsLine (cleaned inner) (cleaned gap) (items_of ls) × Division counts (count ls)
   unfolding lines_verdict
   whole_is room e =
       let rest = summed (outer_sum (cleaned gap) (items_of ls)) in
@@ -120,6 +119,6 @@ module _ (inner gap : Float) (counts : List ℕ) (ls : Lists) (grow : Singles ls
       (line_of_checks inner gap ls grow shrink q.0.container.0 q.0.container.1.0 q.0.items (shape_of counts ls room p.0).1.few q.1, (division-fine counts (count ls) q.0.container.1.1.0).0)
 
   pub lines_reach : (k sum : ℕ) (t₀ : List Float) (f₀ : List ℤ) (r₀ : List ℕ) (t : List Float) (f : List ℤ) (r : List ℕ)
-      → FlexedByLine inner gap counts ls (Done k sum) t₀ f₀ r₀ t f r
+      → FlexedByLine inner gap counts ls (done k sum) t₀ f₀ r₀ t f r
       → (i : ℕ) → i < count ls → Fine (float kind.Worked (get_or t i nan))
   lines_reach k sum t₀ f₀ r₀ t f r p = let w = whole_is (room_of t₀ f₀ r₀) p.0 in all_reach (cleaned inner) (cleaned gap) (item_at ls) (count ls) counts w.0 w.1 p.2

@@ -2,10 +2,9 @@
 -- proofs/Promised.antt fills it. Assumes nothing.
 use Rattle.std.specs.Prelude.{◌≡◌, true, List, [], ◌∷◌, ℕ, ◌<◌, get_or, ℤ, Float}
 use Rattle.std.specs.Float.{nan}
-use Rattle.checks.specs.Domain.{float, out_of_range}
+use Rattle.checks.specs.Domain.{float, out_of_range, done}
 use Rattle.checks.specs.Marks.{Fine}
 use Rattle.checks.specs.declared.Kind.TheVariants.{Worked}
-use Rattle.checks.specs.declared.Answer.TheVariants as answer
 use Rattle.flex.specs.Items.{Lists, count}
 use Rattle.flex_lines_call.specs.Lines.{FlexedByLine}
 use Rattle.flex_reach.proofs.Line.{Singles}
@@ -26,7 +25,7 @@ pub record Promised : Type 0 where
   -- none of the checks refuses, as a worked-out number, a target that the call over many lines hands on
   pub lines_reach : (inner gap : Float) (counts : List ℕ) (ls : Lists) → Singles ls.grow (count ls)
       → Singles ls.shrink (count ls) → (k sum : ℕ) (t₀ : List Float) (f₀ : List ℤ) (r₀ : List ℕ)
-      (t : List Float) (f : List ℤ) (r : List ℕ) → FlexedByLine inner gap counts ls (answer.Done k sum) t₀ f₀ r₀ t f r
+      (t : List Float) (f : List ℤ) (r : List ℕ) → FlexedByLine inner gap counts ls (done k sum) t₀ f₀ r₀ t f r
       → (i : ℕ) → i < count ls → Fine (float Worked (get_or t i nan))
   -- nor a main size that an accepted pass leaves
   pub pass_reach : (c : Container) (n : ℕ) (x : List Float) (codes : List ℕ) (before : PassLent)

@@ -2,8 +2,7 @@
 -- fills it. Assumes nothing.
 use Rattle.std.specs.Prelude.{◌≡◌, List, Float}
 use Rattle.flex.specs.Items.{Lists}
-use Rattle.flex_line_call.specs.Call.{FlexedLine}
-use Rattle.flex_line_call.specs.declared.FlexAnswer.{FlexAnswer}
+use Rattle.flex_line_call.specs.Call.{FlexAnswer, FlexedLine}
 
 pub record Promised : Type 0 where
   -- the contract of `flex_line` leaves no choice

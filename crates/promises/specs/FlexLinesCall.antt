@@ -2,11 +2,10 @@
 -- fills it. Assumes nothing.
 use Rattle.std.specs.Prelude.{◌≡◌, List, ℕ, ◌+◌, ◌<◌, length, get_or, ℤ, Float}
 use Rattle.lists.specs.ByLine.{line_start}
-use Rattle.checks.specs.declared.Answer.TheVariants.{Done}
+use Rattle.checks.specs.Domain.{Answer, done}
 use Rattle.flex.specs.Items.{Lists, item_at}
 use Rattle.flex_lines.specs.Alone.{SameFlexed}
 use Rattle.flex_lines_call.specs.Lines.{FlexedByLine}
-use Rattle.checks.specs.declared.Answer.{Answer}
 
 pub record Promised : Type 0 where
   -- the contract of `flex_lines` leaves no choice
@@ -20,8 +19,8 @@ pub record Promised : Type 0 where
   pub line_independent : (inner gap : Float) (ls ls' : Lists) (counts counts' : List ℕ) (k k' sum sum' : ℕ)
       (targets₀ targets₀' : List Float) (free₀ free₀' : List ℤ) (rounds₀ rounds₀' : List ℕ)
       (targets targets' : List Float) (free free' : List ℤ) (rounds rounds' : List ℕ)
-      → FlexedByLine inner gap counts ls (Done k sum) targets₀ free₀ rounds₀ targets free rounds
-      → FlexedByLine inner gap counts' ls' (Done k' sum') targets₀' free₀' rounds₀' targets' free' rounds'
+      → FlexedByLine inner gap counts ls (done k sum) targets₀ free₀ rounds₀ targets free rounds
+      → FlexedByLine inner gap counts' ls' (done k' sum') targets₀' free₀' rounds₀' targets' free' rounds'
       → (j : ℕ) → j < length counts → j < length counts' → line_start counts j ≡ line_start counts' j
       → get_or counts j 0 ≡ get_or counts' j 0
       → ((i : ℕ) → i < get_or counts j 0 → item_at ls (line_start counts j + i) ≡ item_at ls' (line_start counts j + i))

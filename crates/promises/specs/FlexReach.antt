@@ -9,8 +9,7 @@ use Rattle.checks.specs.declared.Kind.TheVariants.{Worked}
 use Rattle.flex.specs.declared.Item.{Item}
 use Rattle.flex.specs.Flex.{begun, line_of, targets, Runs}
 use Rattle.flex.specs.Items.{Lists, count}
-use Rattle.flex_line_call.specs.declared.FlexAnswer.TheVariants.{Done}
-use Rattle.flex_line_call.specs.Call.{FlexedLine}
+use Rattle.flex_line_call.specs.Call.{flexed, FlexedLine}
 use Rattle.flex_reach.specs.Reach.{IsLine, Each, HandedOn}
 use Rattle.flex_reach.proofs.Line.{Singles}
 
@@ -20,5 +19,5 @@ pub record Promised : Type 0 where
       → Runs (line_of inner gap items) (begun inner gap items) n → Each HandedOn (targets inner gap items n)
   -- so none of the checks refuses, as a worked-out number, a target that the call for one line hands on
   pub line_reach : (inner gap : Float) (ls : Lists) → Singles ls.grow (count ls) → Singles ls.shrink (count ls)
-      → (free : Sixtyfourths) (rounds : ℕ) (old new : List Float) → FlexedLine inner gap ls (Done free rounds) old new
+      → (free : Sixtyfourths) (rounds : ℕ) (old new : List Float) → FlexedLine inner gap ls (flexed free rounds) old new
       → (i : ℕ) → i < count ls → Fine (float Worked (get_or new i nan))

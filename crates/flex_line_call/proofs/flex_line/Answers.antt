@@ -8,7 +8,7 @@ use Rattle.flex_line_call.proofs.flex_line.Goals as goal
 pub flex_checked-requires : goal.flex_checked-requires
 flex_checked-requires c =
     let a = c.args in
-    checked_of a.inner a.gap (lists_of a.items) a.targets.now (sym c.in_ok-check_line.ensures)
+    checked_of a.inner a.gap (lists_of a.items) _ (sym c.in_ok-check_line.ensures)
 
 pub returns-in_err-check_line : goal.returns-in_err-check_line
 returns-in_err-check_line c =

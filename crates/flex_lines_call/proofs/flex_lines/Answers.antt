@@ -25,9 +25,9 @@ said inner gap counts ls targets free rounds m k v p q e =
 pub flex_lines_checked-requires : goal.flex_lines_checked-requires
 flex_lines_checked-requires c =
     let a = c.args in
-    checked_lines a.inner a.gap a.counts.now (lists_of a.items) a.targets.now a.free.now a.rounds.now
-    (said a.inner a.gap a.counts.now (lists_of a.items) a.targets.now a.free.now a.rounds.now _ _ _ c.min.ensures
-    c.min-room.ensures c.in_ok-check_lines.ensures)
+    checked_lines a.inner a.gap a.counts.now (lists_of a.items) _ _ _
+    (said a.inner a.gap a.counts.now (lists_of a.items) _ _ _ _ _ _ c.min.ensures c.min-room.ensures
+    c.in_ok-check_lines.ensures)
 
 pub returns-in_err-check_lines : goal.returns-in_err-check_lines
 returns-in_err-check_lines c =
