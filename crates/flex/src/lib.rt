@@ -9,7 +9,8 @@ pub mod sizes;
 
 pub use items::ItemLists;
 
-// An item as it is read: no number is -0.0, an auto margin is 0, and an absent maximum is infinite.
+// An item as it is read: no number is -0.0, an auto margin is 0, and an absent maximum is infinite. A default one, of
+// zeros, fills a table that is not read yet.
 #[derive(Clone, Copy, Default)]
 pub struct Item {
     pub base: f32,
@@ -23,7 +24,8 @@ pub struct Item {
     pub end: f32,
 }
 
-// What the rounds of a line go by: its inner size, gap and initial free space, and whether it grows.
+// What the rounds of a line go by: its inner size, gap and initial free space, and whether it grows: by the definitions'
+// `Bool`, which chooses between an item's two factors.
 #[derive(Clone, Copy)]
 pub struct Line {
     pub inner: f32,
@@ -32,7 +34,7 @@ pub struct Line {
     pub growing: bool,
 }
 
-// What a round shares out, and over what sum of weights.
+// What a round shares out, and over what sum of weights. `growing` is as in `Line`.
 #[derive(Clone, Copy)]
 pub struct Share {
     pub growing: bool,

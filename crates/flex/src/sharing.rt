@@ -67,7 +67,7 @@ fn limit(initial: f32, factors: f32, free: f32) -> f32
 
 impl Line {
     // What a round shares out, from its sums. No entry point.
-    pub fn share_of(self, n: usize, s: Sums) -> Share
+    pub fn share(self, n: usize, s: Sums) -> Share
         requires { n ≤ 1024 }
         ensures { result ≡ share_of self n s }
     {

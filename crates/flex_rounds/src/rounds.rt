@@ -68,7 +68,7 @@ pub fn one_round(items: &[Item], ln: Line, s: Sums, frozen: &mut [bool], targets
     ensures { Rewritten items.now (round ln (cells_of items.now frozen.old targets.old))
         targets.old frozen.new targets.new }
 {
-    let sh = ln.share_of(items.len(), s);
+    let sh = ln.share(items.len(), s);
     let sum = flex_sizes(items, sh, frozen, targets);
     settle_all(items, sum, frozen, targets);
 }

@@ -18,8 +18,8 @@ returns c =
       cells_are =
           r.cells_are
           ∙ ap (map (settled f.result)) f.ensures.rewritten.cells_are
-          ∙ round_is a.ln (cells_of a.items.now a.frozen.now a.targets.now) n a.s c.share_of-sh.result f.result
+          ∙ round_is a.ln (cells_of a.items.now a.frozen.now a.targets.now) n a.s c.share-sh.result f.result
           (sym (length-each n (cell_at a.items.now a.frozen.now a.targets.now)))
-          c.requires.1 c.share_of-sh.ensures f.ensures.value;
+          c.requires.1 c.share-sh.ensures f.ensures.value;
       kept = λ k h. r.kept k h ∙ f.ensures.rewritten.kept k h;
     }
