@@ -13,9 +13,8 @@ use lib.ListN.{length, replicate, length-map, length-replicate}
 use lib.IntN.{ℤ}
 use lib.Ieee.{Float, binary32, of_bits}
 use Rattle.grid.specs.Grid.{sixty_fourths}
-use Rattle.checks.specs.declared.Verdict.{Verdict}
-use Rattle.checks.specs.declared.Verdict.TheVariants.{Passed}
-use Rattle.checks.specs.declared.Verdict.TheVariants as verdict
+use Rattle.checks.specs.Domain.{Verdict}
+use Rattle.std.specs.Prelude.{Ok, Err}
 use Rattle.keywords.specs.declared.AvailableSpace.{AvailableSpace}
 use Rattle.keywords.specs.declared.AvailableSpace.TheVariants.{Definite, MinContent, MaxContent}
 use Rattle.break_greedy.specs.Breaking.{limit_of, min_content, max_content}
@@ -26,8 +25,7 @@ use Rattle.capture_format.specs.Reading.{Reading, whole, broken, reading, as_wri
 use Rattle.capture_format.specs.Written.{Numbers, Readable, sizes_said, capture_bytes}
 use Rattle.capture_format.specs.declared.Head.{Head}
 use Rattle.capture.specs.Answer.{capture_verdict, CaptureDivided, ByVerdict, ByCount, CaptureAnswered}
-use Rattle.capture_text.specs.declared.Reply.{Reply}
-use Rattle.capture_text.specs.declared.Reply.TheVariants.{Lines}
+use Rattle.capture_text.specs.Text.{Reply}
 use Rattle.break_greedy.proofs.Accepted.{breakable}
 use Rattle.balance_rule.proofs.Ones.{many_ones, min_as_many}
 use Rattle.capture_format.proofs.Format.{old_read}
@@ -43,7 +41,7 @@ old gap minimum = record { limit = MinContent; gap = gap; minimum = minimum }
 abbrev pub Named : Head → List Float → List ℕ → Type 0
 Named head sizes d = Balanced (limit_of head.limit) (sixty_fourths head.gap) (units sizes) head.minimum d
 
-pub same_division : (gap : Float) (minimum : ℕ) (sizes : List Float) (d : List ℕ) → capture_verdict (old gap minimum) sizes ≡ Passed
+pub same_division : (gap : Float) (minimum : ℕ) (sizes : List Float) (d : List ℕ) → capture_verdict (old gap minimum) sizes ≡ Ok tt
     → Named (old gap minimum) sizes d ↔ Named (one_each gap) sizes d
 unfolding limit_of
 same_division gap minimum sizes d e =
@@ -62,11 +60,11 @@ module _ (before : List ℕ) (r : Reply) (after : List ℕ) where
 
   judged : (gap : Float) (minimum : ℕ) (sizes : List Float) (v : Verdict) → capture_verdict (old gap minimum) sizes ≡ v
       → ByVerdict v (old gap minimum) sizes before r after ↔ ByVerdict v (one_each gap) sizes before r after
-  judged gap minimum sizes Passed e = (
+  judged gap minimum sizes (Ok tt) e = (
     renamed (old gap minimum) (one_each gap) sizes (λ d. (same_division gap minimum sizes d e).0),
     renamed (one_each gap) (old gap minimum) sizes (λ d. (same_division gap minimum sizes d e).1),
   )
-  judged gap minimum sizes (verdict.Refused why) e = Iff.rfl
+  judged gap minimum sizes (Err why) e = Iff.rfl
 
   -- they differ in the limit and in the minimum, and the checks take neither a bare limit nor a minimum: one verdict for both
   counted : (many : Bool) (gap : Float) (minimum : ℕ) (sizes : List Float)
@@ -102,7 +100,7 @@ module _ (before : List ℕ) (k : ℕ) (after : List ℕ) where
   abbrev Ones : List Float → Type 0
   Ones sizes = (k ≡ length sizes) × (after ≡ calls.count_cells (length sizes) (replicate (length sizes) 1) before)
 
-  ones_divided : (gap : Float) (sizes : List Float) → capture_verdict (one_each gap) sizes ≡ Passed → CaptureDivided (one_each gap) sizes before (Lines k) after → Ones sizes
+  ones_divided : (gap : Float) (sizes : List Float) → capture_verdict (one_each gap) sizes ≡ Ok tt → CaptureDivided (one_each gap) sizes before (Ok k) after → Ones sizes
   ones_divided gap sizes e d =
       let few = (breakable [] MaxContent gap sizes true e).0.few in
       let n : length (units sizes) ≡ length sizes = length-map sizes sixty_fourths in
@@ -111,16 +109,16 @@ module _ (before : List ℕ) (k : ℕ) (after : List ℕ) where
         d.cells ∙ ap (λ (l : List ℕ). calls.count_cells (length sizes) l before) ones,
       )
 
-  ones_judged : (v : Verdict) (gap : Float) (sizes : List Float) → capture_verdict (one_each gap) sizes ≡ v → ByVerdict v (one_each gap) sizes before (Lines k) after → Ones sizes
-  ones_judged Passed gap sizes e d = ones_divided gap sizes e d
-  ones_judged (verdict.Refused why) gap sizes e (told, kept) = let z : ◌≡◌ {A = ℕ} 0 1 = cc in absurd (omega arith)
+  ones_judged : (v : Verdict) (gap : Float) (sizes : List Float) → capture_verdict (one_each gap) sizes ≡ v → ByVerdict v (one_each gap) sizes before (Ok k) after → Ones sizes
+  ones_judged (Ok tt) gap sizes e d = ones_divided gap sizes e d
+  ones_judged (Err why) gap sizes e (told, kept) = let z : ◌≡◌ {A = ℕ} 0 1 = cc in absurd (omega arith)
 
-  ones_counted : (many : Bool) (gap : Float) (sizes : List Float) → ByCount many (one_each gap) sizes before (Lines k) after → Ones sizes
+  ones_counted : (many : Bool) (gap : Float) (sizes : List Float) → ByCount many (one_each gap) sizes before (Ok k) after → Ones sizes
   ones_counted true gap sizes (told, kept) = let z : ◌≡◌ {A = ℕ} 0 1 = cc in absurd (omega arith)
   ones_counted false gap sizes d = ones_judged (capture_verdict (one_each gap) sizes) gap sizes refl d
 
   -- an old capture that is accepted has as many lines as items, of one item each
-  pub one_a_line : (c : Numbers) → Readable c → c.limit-kind ≡ 1 → CaptureAnswered (reading as_read (capture_bytes c)) before (Lines k) after → Ones (sizes_said c)
+  pub one_a_line : (c : Numbers) → Readable c → c.limit-kind ≡ 1 → CaptureAnswered (reading as_read (capture_bytes c)) before (Ok k) after → Ones (sizes_said c)
   one_a_line c fit one a =
       ones_counted (ltb 64 (length (sizes_said c))) (of_bits binary32 c.gap) (sizes_said c)
-      (subst (λ (t : Reading). CaptureAnswered t before (Lines k) after) (old_read c fit one) a)
+      (subst (λ (t : Reading). CaptureAnswered t before (Ok k) after) (old_read c fit one) a)
