@@ -6,7 +6,7 @@ ghost use Rattle.capture_feed.specs.Machine.{ReaderReady};
 ghost use Rattle.capture_program.specs.Turned.{Turned};
 
 use capture_feed::Reader;
-use capture_text::Reply;
+use capture_text::Fault;
 use std::io;
 use std::io::Read;
 
@@ -14,27 +14,19 @@ use std::io::Read;
 // that no run uses up.
 const MOST_TURNS: u64 = 0x8000_0000_0000;
 
-#[derive(Drop)]
-struct Turn {
-    reader: Reader,
-    bytes: usize,
-}
-
-// Reads once and feeds what came. No bytes are the end of the input, or a read that failed.
-fn read_some(input: &mut impl Read, reader: Reader, sizes: &mut [f32; 64]) -> Turn
-    requires { ReaderReady reader 65536 }
-    ensures { Turned reader sizes.old result sizes.new }
+// Reads once, feeds what came and answers how many bytes that were. None are the end of the input, or a read that
+// failed.
+fn read_some(input: &mut impl Read, reader: &mut Reader, sizes: &mut [f32; 64]) -> usize
+    requires { ReaderReady reader.old 65536 }
+    ensures { Turned reader.old sizes.old result reader.new sizes.new }
 {
     let mut buffer = [0u8; 65536];
     let n = input.read(&mut buffer).unwrap_or(0);
-    let next = capture_feed::feed(reader, &buffer[..n], sizes);
-    Turn {
-        reader: next,
-        bytes: n,
-    }
+    reader.feed(&buffer[..n], sizes);
+    n
 }
 
-fn print(rt: &impl Print, reply: Reply, counts: &[u32]) -> io::Result<()>
+fn print(rt: &impl Print, reply: Result<u32, Fault>, counts: &[u32]) -> io::Result<()>
     requires { length counts.now ≡ 64 }
 {
     let mut text = [0u8; 2048];
@@ -46,11 +38,9 @@ fn main(rt: HostRuntime) -> io::Result<()> {
     let mut input = rt.stdin();
     let mut sizes = [0.0f32; 64];
     let mut counts = [0u32; 64];
-    let mut reader = capture_feed::start();
+    let mut reader = Reader::start();
     for _ in 0..MOST_TURNS {
-        let turn = read_some(&mut input, reader, &mut sizes);
-        reader = turn.reader;
-        if turn.bytes == 0 {
+        if read_some(&mut input, &mut reader, &mut sizes) == 0 {
             break;
         }
     }

@@ -12,12 +12,12 @@ loop-init c =
     subst (λ (r : Reader). ReaderReady r (65536 * 140737488355328)) (sym c.start-reader.ensures)
     (record { sound = started_sound; room = omega arith })
 
-pub read_some-turn-requires : goal.read_some-turn-requires
-read_some-turn-requires c =
+pub read_some-requires : goal.read_some-requires
+read_some-requires c =
     ready_less 65536 (65536 * (140737488355328 - c.loop.counter)) (omega arith) c.loop.invariant
 
 pub loop-preserved : goal.loop-preserved
 loop-preserved c =
     let rest = 65536 * (140737488355328 - (c.loop.counter + 1)) in
-    turn_ready _ _ _ _ c.read_some-turn.ensures rest
+    turn_ready _ _ _ _ _ c.read_some.ensures rest
     (ready_less (65536 + rest) (65536 * (140737488355328 - c.loop.counter)) (omega arith) c.loop.invariant)
