@@ -1,8 +1,7 @@
 -- Greedy and balanced breaking as they cross to C: numbers and slices, a code for the kind of the limit, and each
 -- exported call as the call inside it. Assumes nothing.
 use Rattle.std.specs.Prelude.{◌≡◌, List, [], ◌∷◌, ℕ, Float}
-use Rattle.checks.specs.Domain.{Number, code}
-use Rattle.checks.specs.declared.Answer.{Answer}
+use Rattle.checks.specs.Domain.{Number, code, Answer}
 use Rattle.keywords.specs.Space.{space_of}
 use Rattle.break_greedy.specs.Calls.{GreedyResult, greedy_call}
 use Rattle.balance.specs.Calls.{BreakLent, BalancedCall}

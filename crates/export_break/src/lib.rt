@@ -2,11 +2,35 @@
 // here, and a code that names nothing is refusal 5. Every call takes any bits; all else is inside.
 #![tactic(auto)]
 
-ghost use Rattle.export_break.specs.Breaks.{Crossed, greedy_from_c, BalancedFromC};
+ghost use Rattle.std.specs.Prelude.{◌≡◌, Bool};
+ghost use Rattle.checks.specs.Marks.{as_answer};
+ghost use Rattle.break_greedy.specs.Calls.{breaking_verdict};
+ghost use Rattle.export_break.specs.Breaks.{kind_number, Crossed, greedy_from_c, BalancedFromC};
 ghost use Rattle.balance.specs.Calls.{break_lent};
 
-use export_answer::{CAnswer, to_c};
-use keywords::space_of;
+use checks::{Done, Refusal};
+use export_answer::CAnswer;
+use keywords::{AvailableSpace, space_of};
+
+// The answer where the kind names nothing. No call inside knows such a kind: only the checks are run, and one of them
+// refuses.
+#[tactic(auto, unfolding(checks::specs::Marks::least_of), using(checks::proofs::Checks::least_one))]
+fn unnamed(
+    limit_kind: u32,
+    space: AvailableSpace,
+    gap: f32,
+    sizes: &[f32],
+    room: bool,
+) -> Result<Done, Refusal>
+    ensures { result ≡ as_answer (breaking_verdict (kind_number limit_kind) space gap sizes.now room) 0 0 }
+{
+    let kind = checks_number::mark_code(2, limit_kind, 0);
+    break_greedy::check_breaking(kind, space, gap, sizes, room)?;
+    Ok(Done {
+        lines: 0,
+        rounds: 0,
+    })
+}
 
 #[unsafe(no_mangle)]
 pub extern "C" fn fratolivem_greedy(
@@ -21,12 +45,9 @@ pub extern "C" fn fratolivem_greedy(
 {
     let space = space_of(limit_kind, limit);
     if 2 < limit_kind {
-        // No call inside knows such a kind: only the checks are run, and one of them refuses.
-        let kind = checks_number::mark_code(2, limit_kind, 0);
-        let v = break_greedy::check_breaking(kind, space, gap, sizes, sizes.len() <= counts.len());
-        return to_c(checks::answer_of(v, 0, 0));
+        return unnamed(limit_kind, space, gap, sizes, sizes.len() <= counts.len()).into();
     }
-    to_c(break_greedy::greedy(space, gap, sizes, counts))
+    break_greedy::greedy(space, gap, sizes, counts).into()
 }
 
 #[unsafe(no_mangle)]
@@ -47,9 +68,7 @@ pub extern "C" fn fratolivem_balanced(
     let space = space_of(limit_kind, limit);
     if 2 < limit_kind {
         let room = balance::has_room(sizes.len(), counts.len(), work.len(), sums.len());
-        let kind = checks_number::mark_code(2, limit_kind, 0);
-        let v = break_greedy::check_breaking(kind, space, gap, sizes, room);
-        return to_c(checks::answer_of(v, 0, 0));
+        return unnamed(limit_kind, space, gap, sizes, room).into();
     }
-    to_c(balance::balanced(space, gap, minimum, sizes, counts, work, sums))
+    balance::balanced(space, gap, minimum, sizes, counts, work, sums).into()
 }
