@@ -7,10 +7,6 @@ use checks::{Done, Place, Refusal};
 use keywords::AvailableSpace;
 use std::io;
 
-const NAN: f32 = f32::NAN;
-
-const INFINITY: f32 = f32::INFINITY;
-
 fn refused(rt: &impl Print, why: Refusal) -> io::Result<()> {
     let number = why.number();
     match why.place() {
