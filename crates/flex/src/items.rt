@@ -1,8 +1,8 @@
 // The lists of a call: a number of each item in each of them. Crate `flex_checks` sees that they are of one length.
 ghost use Rattle.std.specs.Prelude.{◌≡◌, length};
 
-// A list for each number of an item. `has_maximum` is 0 where the item has no maximum, and 1 where it has one; the codes
-// of the margins are 0 where they are given, and 1 where they are auto.
+// A list for each number of an item. The codes are the C interface's: `has_maximum` is 1 where the item has a maximum,
+// and `auto_start` and `auto_end` are 1 where its margin is auto; else they are 0.
 #[derive(Clone, Copy)]
 pub struct ItemLists<'a> {
     pub base: &'a [f32],

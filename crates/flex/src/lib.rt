@@ -24,8 +24,8 @@ pub struct Item {
     pub end: f32,
 }
 
-// What the rounds of a line go by: its inner size, gap and initial free space, and whether it grows: by the definitions'
-// `Bool`, which chooses between an item's two factors.
+// What the rounds of a line go by: its inner size, gap and initial free space, and whether it grows, which chooses
+// between an item's two factors: a `bool`, as in the definitions.
 #[derive(Clone, Copy)]
 pub struct Line {
     pub inner: f32,

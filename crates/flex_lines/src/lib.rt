@@ -26,8 +26,8 @@ pub fn is_division(counts: &[u32], n: usize) -> bool
     sum == n && positive
 }
 
-// Line after line, by the counts; answers the sum of the rounds. Targets, free space and rounds are lists by themselves,
-// as the C interface lends them.
+// Line after line, by the counts; answers the sum of the rounds. Targets, free space and rounds are lists by
+// themselves, as the C interface lends them.
 fn flex_each<'a>(
     items: &'a [Item],
     inner: f32,

@@ -8,7 +8,16 @@ use Rattle.flex.specs.Accepted.{Measured}
 
 -- what stands for an item past the end of a table
 abbrev pub no_item : Item
-no_item = record { base = nan; minimum = nan; maximum = nan; edges = nan; grow = nan; shrink = nan; start = nan; end = nan }
+no_item = record {
+  base = nan;
+  minimum = nan;
+  maximum = nan;
+  edges = nan;
+  grow = nan;
+  shrink = nan;
+  start = nan;
+  end = nan;
+}
 
 -- item i
 abbrev pub item_in : List Item → ℕ → Item
