@@ -4,7 +4,7 @@
 use Rattle.std.specs.Prelude.{◌≡◌, false, List, [], ◌∷◌, ◌++◌, map, ℕ, ◌*◌, length, drop, ℤ, pos, neg_ℤ, Float}
 use Rattle.std.specs.Float.{inf, binary32}
 use Rattle.std.specs.Float.Ieee.{of_int, of_bits}
-use Rattle.keywords.specs.declared.Bound.TheVariants.{Absent, Given}
+use Rattle.std.specs.Prelude.{Some, None}
 use Rattle.break_greedy.specs.Breaking.{Limit, definite, max_content, greedy}
 use Rattle.balance_rule.specs.Rule.{Balanced}
 use Rattle.flex.specs.declared.Item.{Item}
@@ -102,9 +102,9 @@ onto answers cells = map px answers ++ drop (length answers) cells
 -- a container that wraps, of a given inner cross size and with no bounds
 unfoldable pub container : ℕ → ℕ → Cross
 container gap size = record {
-  inner = Given (px size);
-  minimum = Absent;
-  maximum = Absent;
+  inner = Some (px size);
+  minimum = None;
+  maximum = None;
   gap = px gap;
   wrap = wrap.Wrap;
 }

@@ -7,8 +7,7 @@ use Rattle.std.specs.Float.{binary32}
 use Rattle.std.specs.Float.Ieee.{of_int, of_bits}
 use Rattle.keywords.specs.declared.AvailableSpace.{AvailableSpace}
 use Rattle.keywords.specs.declared.AvailableSpace.TheVariants.{Definite, MinContent, MaxContent}
-use Rattle.keywords.specs.declared.Bound.{Bound}
-use Rattle.keywords.specs.declared.Bound.TheVariants.{Absent, Given}
+use Rattle.std.specs.Prelude.{Some, None, Ok, Err}
 use Rattle.keywords.specs.declared.Wrap.{Wrap}
 use Rattle.keywords.specs.declared.Wrap.TheVariants as wrap
 use Rattle.keywords.specs.declared.Mode.TheVariants as mode
@@ -16,14 +15,13 @@ use Rattle.keywords.specs.declared.Position.TheVariants.{Start, End, FlexStart, 
 use Rattle.keywords.specs.declared.Distribution.TheVariants.{Stretch, SpaceBetween, SpaceAround, SpaceEvenly}
 use Rattle.keywords.specs.declared.ContentAlignment.TheVariants.{Unsafe, Safe, Spread}
 use Rattle.keywords.specs.declared.SelfAlignment.TheVariants as self
-use Rattle.keywords.specs.Space.{space_of}
+use Rattle.keywords.specs.Space.{space_of, Bound}
 use Rattle.keywords.specs.Wrapping.{wrap_of, mode_of}
 use Rattle.keywords.specs.Alignment.{content_of, self_of}
 use Rattle.checks.specs.declared.Place.TheVariants.{Container}
 use Rattle.checks.specs.declared.Refusal.TheVariants.{OutOfRange}
-use Rattle.checks.specs.declared.Answer.TheVariants.{Done, Refused}
+use Rattle.checks.specs.Domain.{done}
 use Rattle.break_limit.specs.declared.Query.{Query}
-use Rattle.break_limit.specs.declared.BreakLimit.TheVariants.{Limit}
 use Rattle.break_limit.specs.Limit.{limit_call}
 use Rattle.flex.specs.declared.Item.{Item}
 use Rattle.flex.specs.Flex.{Flexed}
@@ -63,7 +61,7 @@ known definite row available minimum maximum = record {
 -- a container across: inner size, a minimum of 80 and a maximum of 60, wrap mode
 abbrev pub across : Bound → Wrap → Cross
 across inner mode =
-    record { inner = inner; minimum = Given (px 80); maximum = Given (px 60); gap = px 0; wrap = mode }
+    record { inner = inner; minimum = Some (px 80); maximum = Some (px 60); gap = px 0; wrap = mode }
 
 -- an item across its line: measured size, minimum, maximum, padding plus border, and a margin on either side
 abbrev pub item : ℕ → ℕ → ℕ → ℕ → ℕ → CrossItem
@@ -108,7 +106,7 @@ along inner justify reversed = main_call (px inner) (px 10) justify reversed two
 
 -- what it leaves: the offsets, and what each of the two auto margins takes
 abbrev pub leaves : Float → Float → ℕ → MainResult
-leaves first second auto = main_result (Done 0 0) (first ∷ second ∷ px 7 ∷ []) (px auto ∷ px 0 ∷ px 7 ∷ [])
+leaves first second auto = main_result (done 0 0) (first ∷ second ∷ px 7 ∷ []) (px auto ∷ px 0 ∷ px 7 ∷ [])
     (px 0 ∷ px auto ∷ px 7 ∷ [])
 
 -- two items of 100 with these factors, to grow and to shrink
@@ -123,20 +121,20 @@ pub record Worked : Type 0 where
   pub table_counted : length table ≡ 19
   -- "lower it to the maximum; raise it to the minimum if given": 300 to 100, and then to 200, above the maximum
   pub minimum_above_maximum :
-      limit_call (known false true (Definite (px 300)) (Given (px 200)) (Given (px 100))) ≡ Limit (Definite (px 200))
+      limit_call (known false true (Definite (px 300)) (Some (px 200)) (Some (px 100))) ≡ Ok (Definite (px 200))
   -- "if the container has no definite main size, lower it": it has one, so 300 stays above the maximum of 100
   pub not_lowered :
-      limit_call (known true true (Definite (px 300)) Absent (Given (px 100))) ≡ Limit (Definite (px 300))
+      limit_call (known true true (Definite (px 300)) None (Some (px 100))) ≡ Ok (Definite (px 300))
   -- "or the maximum where there is none; .. the result is definite": min-content with a maximum of 100
   pub maximum_for_min_content :
-      limit_call (known false true MinContent Absent (Given (px 100))) ≡ Limit (Definite (px 100))
+      limit_call (known false true MinContent None (Some (px 100))) ≡ Ok (Definite (px 100))
   -- "With no maximum, .. all else passes unchanged": a row of 300 with a minimum of 400 keeps 300
   pub minimum_alone :
-      limit_call (known false true (Definite (px 300)) (Given (px 400)) Absent) ≡ Limit (Definite (px 300))
+      limit_call (known false true (Definite (px 300)) (Some (px 400)) None) ≡ Ok (Definite (px 300))
   -- "a column without a definite main size turns a definite space into max-content"
-  pub column : limit_call (known false false (Definite (px 300)) Absent Absent) ≡ Limit MaxContent
+  pub column : limit_call (known false false (Definite (px 300)) None None) ≡ Ok MaxContent
   -- "-0.0 reads as 0, and an answer that would be -0.0 is 0.0"
-  pub zero_limit : limit_call (known false true (Definite minus_zero) Absent Absent) ≡ Limit (Definite (px 0))
+  pub zero_limit : limit_call (known false true (Definite minus_zero) None None) ≡ Ok (Definite (px 0))
   -- "add to each base free × (factor ÷ sum)", where "factors sum below 1, initial times that sum replaces it": 300 less
   -- 200 and one gap of 20 leave 80, of which a factor of 0.25 takes 20. (The Rust takes the gap off once more, before
   -- it scales: 0.)
@@ -155,18 +153,18 @@ pub record Worked : Type 0 where
   -- "from the last item if reversed"; "flex-start 0, or free if reversed" (code 2): the second item comes first, at -20
   pub reversed_overfull : along 30 2 1 ≡ leaves (px 10) (minus 20) 0
   -- "a single number is out of range", 5: no keyword has the code 14; the cells are as they were
-  pub unknown_code : along 100 14 0 ≡ main_result (Refused (OutOfRange Container)) sevens sevens sevens
+  pub unknown_code : along 100 14 0 ≡ main_result (Err (OutOfRange Container)) sevens sevens sevens
   -- "lowered to the maximum, raised to the minimum, then to padding plus border": 50 to 20, to 30, and 25 is below that
   pub minimum_wins : cross_clamp (item 50 30 20 25 0) (px 50) ≡ px 30
   -- the same with a padding plus border of 40, above maximum and minimum
   pub padding_wins : cross_clamp (item 50 30 20 40 0) (px 50) ≡ px 40
   -- "a given inner size, single-line or not, is clamped so first": 100 to the maximum, 60, and to the minimum, 80, the
   -- line's size whatever its items have
-  pub given_clamped : line_cross_size (across (Given (px 100)) wrap.NoWrap) (px 20) ≡ px 80
+  pub given_clamped : line_cross_size (across (Some (px 100)) wrap.NoWrap) (px 20) ≡ px 80
   -- "clamped by the container's inner cross bounds if single-line": items of 120 in a container of no given size
-  pub single_line_clamped : line_cross_size (across Absent wrap.NoWrap) (px 120) ≡ px 80
+  pub single_line_clamped : line_cross_size (across None wrap.NoWrap) (px 120) ≡ px 80
   -- .. and a container that wraps leaves its lines as large as their items
-  pub wrapping_not_clamped : line_cross_size (across (Given (px 100)) wrap.Wrap) (px 120) ≡ px 120
+  pub wrapping_not_clamped : line_cross_size (across (Some (px 100)) wrap.Wrap) (px 120) ≡ px 120
   -- "placed at 0, free or free/2 by its alignment": an item of 30 on a line of 20, where -10 are free, at its `center`
   pub center_overflows : placed_item (px 20) false thirty (self.Unsafe Center) true ≡ lies 30 (minus 5) 0
   -- "reversed wrapping exchanges flex-start and flex-end": `flex-start` there
