@@ -18,7 +18,7 @@ fn hypothetical_sum(items: &[Item]) -> f32
 {
     let mut s = 0.0;
     for &it in items {
-        s = s + it.outer_size(it.hypothetical_size());
+        s += it.outer_size(it.hypothetical_size());
     }
     s
 }

@@ -37,7 +37,7 @@ fn flex_sizes(items: &[Item], sh: Share, frozen: &[bool], targets: &mut [f32]) -
             continue;
         }
         let size = it.flexed_size(sh);
-        sum = sum + (it.clamped(size) - size);
+        sum += it.clamped(size) - size;
         targets[i] = size;
     }
     sum

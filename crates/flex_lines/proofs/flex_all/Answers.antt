@@ -5,11 +5,11 @@ use Rattle.flex_lines.proofs.flex_all.Goals as goal
 
 pub clear-requires : goal.clear-requires
 clear-requires c =
-    (lines_within c.requires, omega (arith, c.flex_each-sum.ensures.free_past.long, c.requires.divided.free_room))
+    (omega (arith, lines_within c.requires), omega (arith, c.flex_each-sum.ensures.free_past.long, c.requires.divided.free_room))
 
 pub clear-requires-2 : goal.clear-requires-2
 clear-requires-2 c =
-    (lines_within c.requires, omega (arith, c.flex_each-sum.ensures.rounds_past.long, c.requires.divided.rounds_room))
+    (omega (arith, lines_within c.requires), omega (arith, c.flex_each-sum.ensures.rounds_past.long, c.requires.divided.rounds_room))
 
 pub returns : goal.returns
 returns c =
