@@ -8,6 +8,7 @@ use lib.Ieee.{Float}
 use Rattle.grid.specs.Grid.{cleaned}
 use Rattle.keywords.specs.declared.AvailableSpace.{AvailableSpace}
 use Rattle.break_greedy.specs.Steps.{Breakable}
+use Rattle.flex.specs.declared.Item.{Item}
 use Rattle.flex_table.specs.Table.{items_in}
 use Rattle.balance.specs.Calls.{BreakLent}
 use Rattle.keywords.specs.declared.Mode.{Mode}
@@ -35,7 +36,7 @@ module _ {m m' : Mode} {l l' : AvailableSpace} {g g' : Float} {s s' : List Float
 
 -- ---- the lines, read back
 
-module _ (c : Container) (n : ℕ) (t : List Float) {b a : BreakLent} {k : ℕ} (w : LinesBroken c n t b k a) where
+module _ (c : Container) (n : ℕ) (t : List Item) {b a : BreakLent} {k : ℕ} (w : LinesBroken c n t b k a) where
   lines_back : take k a.counts ≡ w.lines
   lines_back = wrapped_counts (limit_space c) (cleaned c.gap_main) c.minimum_lines (outer_sizes (items_in t 0 n)) (break_mode c) w
 

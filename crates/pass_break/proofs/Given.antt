@@ -63,7 +63,7 @@ unfolding each sum_up_to
 outer_up_to gap f zero = sym (outer-none gap f)
 outer_up_to gap f (suc n) = ap (λ (s : ℕ). s + (nat_abs (outer_units (f n)) + nat_abs (sixty_fourths gap))) (outer_up_to gap f n) ∙ sym (outer_snoc gap (each n f) (f n))
 
-module _ (t : List Float) (n : ℕ) where
+module _ (t : List Item) (n : ℕ) where
   abbrev item : ℕ → Item
   item i = item_in t (0 + i)
 

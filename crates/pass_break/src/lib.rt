@@ -13,22 +13,19 @@ ghost use Rattle.pass_break.specs.BreakStage.{Breaks, LinesBroken};
 
 use balance::divide_lent;
 use break_greedy::greedy_checked;
-use flex::sizes::{hypothetical_size, outer_size};
-use flex_table::pick;
+use flex::Item;
 use keywords::{AvailableSpace, Mode, mode_of, space_of, wrap_of};
 use pass_container::Container;
 
 // The sizes that breaking takes: the hypothetical outer main sizes of the table's first n items. No entry point.
-pub fn outer_sizes(table: &[f32], n: usize, sizes: &mut [f32])
+pub fn outer_sizes(table: &[Item], n: usize, sizes: &mut [f32])
     requires { Wide table.now n × (n ≤ length sizes.old) }
     ensures { sizes.new ≡ outer_sizes (items_in table.now 0 n)
         ++ drop n sizes.old }
 {
-    let mut i = 0;
-    while i < n {
-        let it = pick(table, i);
-        sizes[i] = outer_size(it, hypothetical_size(it));
-        i += 1;
+    for i in 0..n {
+        let item = table[i];
+        sizes[i] = item.outer_size(item.hypothetical_size());
     }
 }
 
@@ -41,7 +38,7 @@ fn single_line(n: usize, counts: &mut [u32]) -> usize
         return 0;
     }
     counts[0] = n as u32;
-    lists::clear_u32(counts, 1, n);
+    counts[1..n].fill(0);
     1
 }
 
@@ -74,7 +71,7 @@ pub fn break_lines(
 pub fn break_items(
     c: Container,
     n: usize,
-    table: &[f32],
+    table: &[Item],
     counts: &mut [u32],
     work: &mut [u32],
     sums: &mut [f64],
