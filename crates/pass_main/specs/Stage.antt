@@ -2,6 +2,7 @@
 -- Only contracts of parts cite it. Assumes nothing.
 use Rattle.std.specs.Prelude.{◌≡◌, List, ℕ, ◌*◌, ◌≤◌, length, drop, ℤ, Float}
 use Rattle.grid.specs.Grid.{cleaned}
+use Rattle.flex.specs.declared.Item.{Item}
 use Rattle.flex.specs.Items.{item_at}
 use Rattle.flex_table.specs.Table.{Held}
 use Rattle.flex_lines.specs.Lines.{FlexedLines}
@@ -15,8 +16,8 @@ use Rattle.pass_container.specs.Stages.{ItemLists}
 
 -- what the checks show, and what has been read: the lists are there, the table holds the items, the counts are lines of
 -- them, and there is room
-pub record MainStageReady (c : Container) (n : ℕ) (t x : List Float) (codes counts : List ℕ) (free : List ℤ)
-    (rounds : List ℕ) : Type 0 where
+pub record MainStageReady (c : Container) (n : ℕ) (t : List Item) (x : List Float) (codes counts : List ℕ)
+    (free : List ℤ) (rounds : List ℕ) : Type 0 where
   pub listed : ItemLists n x codes
   pub held : Held (main_lists n x codes) t
   pub lined : Lined (cleaned c.inner_main) (cleaned c.gap_main) t n counts (zeros n) free rounds

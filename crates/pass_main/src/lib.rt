@@ -5,9 +5,10 @@
 ghost use Rattle.std.specs.Prelude.{◌≡◌, ◌||◌, ◌*◌, ◌≤◌, eqb, length};
 ghost use Rattle.pass_main.specs.Stage.{MainStageReady, Run, MainStage};
 
+use flex::Item;
 use flex_lines::flex_all;
-use pass_container::Container;
-use pass_container::columns::{code_column, column, store_four};
+use pass_container::columns::store_four;
+use pass_container::{Container, Items};
 use pass_walk::main_by_line;
 
 pub mod reading; // reading.rt: the items' numbers, into the table
@@ -16,20 +17,15 @@ pub mod reading; // reading.rt: the items' numbers, into the table
 fn is_reversed(direction: u32) -> bool
     ensures { result ≡ (eqb direction 1 || eqb direction 3) }
 {
-    if direction == 1 {
-        return true;
-    }
-    direction == 3
+    direction == 1 || direction == 3
 }
 
 // Flexes and spaces, into lists of n cells each.
-fn run_main<'a>(
+fn run_main(
     c: Container,
-    n: usize,
-    table: &'a [f32],
-    numbers: &'a [f32],
-    codes: &'a [u32],
-    counts: &'a [u32],
+    items: Items,
+    table: &[Item],
+    counts: &[u32],
     targets: &mut [f32],
     offsets: &mut [f32],
     starts: &mut [f32],
@@ -37,27 +33,32 @@ fn run_main<'a>(
     free: &mut [i32],
     rounds: &mut [u32],
 ) -> u32
-    requires main_stage_ready { MainStageReady c n table.now numbers.now codes.now counts.now free.old rounds.old }
-    requires targets_len { (length targets.old ≡ n) × (length offsets.old ≡ n) × (length starts.old ≡ n)
-        × (length ends.old ≡ n) }
-    ensures { Run c n numbers.now codes.now counts.now free.old
-        rounds.old result targets.new offsets.new starts.new ends.new
+    requires main_stage_ready { MainStageReady c items.count table.now items.numbers.now items.codes.now counts.now free.old
+        rounds.old }
+    requires targets_len { (length targets.old ≡ items.count) × (length offsets.old ≡ items.count)
+        × (length starts.old ≡ items.count) × (length ends.old ≡ items.count) }
+    ensures { Run c items.entry.count items.entry.numbers.now items.entry.codes.now counts.now free.old rounds.old
+        result targets.new offsets.new starts.new ends.new
         free.new rounds.new }
 {
     let inner = grid::clean(c.inner_main);
     let gap = grid::clean(c.gap_main);
-    let sum = flex_all(table, n, inner, gap, counts, targets, free, rounds);
+    let sum = flex_all(
+        &table[..items.count],
+        inner,
+        gap,
+        counts,
+        targets,
+        free,
+        rounds,
+    );
     main_by_line(
         c.inner_main,
         c.gap_main,
         keywords::content_of(c.justify_content),
         is_reversed(c.direction),
         counts,
-        targets,
-        column(numbers, n, 6),
-        column(numbers, n, 7),
-        code_column(codes, n, 1),
-        code_column(codes, n, 2),
+        items.spaced(targets),
         offsets,
         starts,
         ends,
@@ -66,13 +67,11 @@ fn run_main<'a>(
 }
 
 // The same by way of lists that have the cells, into lists 0 to 3 of `placed`.
-fn place_by_way<'a>(
+fn place_by_way(
     c: Container,
-    n: usize,
-    table: &'a [f32],
-    numbers: &'a [f32],
-    codes: &'a [u32],
-    counts: &'a [u32],
+    items: Items,
+    table: &[Item],
+    counts: &[u32],
     targets: &mut [f32],
     offsets: &mut [f32],
     starts: &mut [f32],
@@ -81,20 +80,20 @@ fn place_by_way<'a>(
     free: &mut [i32],
     rounds: &mut [u32],
 ) -> u32
-    requires main_stage_ready { MainStageReady c n table.now numbers.now codes.now counts.now free.old rounds.old
-        × (4 * n ≤ length placed.old) }
-    requires n_in_bounds { (n ≤ length targets.old) × (n ≤ length offsets.old) × (n ≤ length starts.old)
-        × (n ≤ length ends.old) }
-    ensures { MainStage c n numbers.now codes.now counts.now
+    requires main_stage_ready { MainStageReady c items.count table.now items.numbers.now items.codes.now counts.now free.old
+        rounds.old
+        × (4 * items.count ≤ length placed.old) }
+    requires n_in_bounds { (items.count ≤ length targets.old) × (items.count ≤ length offsets.old)
+        × (items.count ≤ length starts.old) × (items.count ≤ length ends.old) }
+    ensures { MainStage c items.entry.count items.entry.numbers.now items.entry.codes.now counts.now
         placed.old free.old rounds.old result placed.new free.new
         rounds.new }
 {
+    let n = items.count;
     let sum = run_main(
         c,
-        n,
+        items,
         table,
-        numbers,
-        codes,
         counts,
         &mut targets[..n],
         &mut offsets[..n],
@@ -116,20 +115,19 @@ fn place_by_way<'a>(
 }
 
 // The main axis of accepted items, whose lines are known. No entry point: it asks what the checks show.
-pub fn place_main_axis<'a>(
+pub fn place_main_axis(
     c: Container,
-    n: usize,
-    table: &'a [f32],
-    numbers: &'a [f32],
-    codes: &'a [u32],
-    counts: &'a [u32],
+    items: Items,
+    table: &[Item],
+    counts: &[u32],
     placed: &mut [f32],
     free: &mut [i32],
     rounds: &mut [u32],
 ) -> u32
-    requires { MainStageReady c n table.now numbers.now codes.now counts.now free.old rounds.old
-        × (4 * n ≤ length placed.old) }
-    ensures { MainStage c n numbers.now codes.now counts.now
+    requires { MainStageReady c items.count table.now items.numbers.now items.codes.now counts.now free.old
+        rounds.old
+        × (4 * items.count ≤ length placed.old) }
+    ensures { MainStage c items.entry.count items.entry.numbers.now items.entry.codes.now counts.now
         placed.old free.old rounds.old result placed.new free.new
         rounds.new }
 {
@@ -139,10 +137,8 @@ pub fn place_main_axis<'a>(
     let mut ends = [0.0; 1024];
     place_by_way(
         c,
-        n,
+        items,
         table,
-        numbers,
-        codes,
         counts,
         &mut targets,
         &mut offsets,

@@ -1,27 +1,13 @@
 -- Flexing and the main axis, each asked what the checks show. Assumes nothing.
-use mathlib.Core.Path.{◌∙◌}
-use native.Mathlib.Omega.{arith}
-use Rattle.pass_checks.proofs.Taken.{number_inside, code_inside}
+use Rattle.std.proofs.Common.{◌∙◌}
 use Rattle.pass_main.proofs.StageLaws.{flex_asked, flexed_of, main_asked, spaced_of}
 use Rattle.pass_main.proofs.run_main.Goals as goal
 
 pub flex_all-sum-requires : goal.flex_all-sum-requires
 flex_all-sum-requires c = flex_asked c.requires.main_stage_ready _ _ _ c.clean-inner.ensures c.clean-gap.ensures c.requires.targets_len.0
 
-pub column-requires : goal.column-requires
-column-requires c = number_inside c.requires.main_stage_ready.listed 6 (omega arith)
-
-pub column-requires-2 : goal.column-requires-2
-column-requires-2 c = number_inside c.requires.main_stage_ready.listed 7 (omega arith)
-
-pub code_column-requires : goal.code_column-requires
-code_column-requires c = code_inside c.requires.main_stage_ready.listed 1 (omega arith)
-
-pub code_column-requires-2 : goal.code_column-requires-2
-code_column-requires-2 c = code_inside c.requires.main_stage_ready.listed 2 (omega arith)
-
 pub main_by_line-requires : goal.main_by_line-requires
-main_by_line-requires c = main_asked c.requires.main_stage_ready _ _ _ _ _ _ _ _ (c.flex_all-sum.ensures.long ∙ c.requires.targets_len.0) c.column.ensures c.column-2.ensures c.code_column.ensures c.code_column-2.ensures c.requires.targets_len.1 c.requires.targets_len.2 c.requires.targets_len.3
+main_by_line-requires c = main_asked c.requires.main_stage_ready _ _ _ _ c.spaced.ensures (c.flex_all-sum.ensures.long ∙ c.requires.targets_len.0) c.requires.targets_len.1 c.requires.targets_len.2 c.requires.targets_len.3
 
 pub returns : goal.returns
 returns c =
@@ -29,5 +15,5 @@ returns c =
     let m = c.main_by_line in
     record {
       flexed = flexed_of c.requires.main_stage_ready _ _ _ _ _ _ _ c.clean-inner.ensures c.clean-gap.ensures c.requires.targets_len.0 f.ensures;
-      spaced = spaced_of c.args.c _ _ _ _ _ _ _ _ _ _ _ _ _ _ _ _ _ (f.ensures.long ∙ c.requires.targets_len.0) c.column.ensures c.column-2.ensures c.code_column.ensures c.code_column-2.ensures c.content_of.ensures c.is_reversed.ensures c.requires.targets_len.1 c.requires.targets_len.2 c.requires.targets_len.3 m.ensures;
+      spaced = spaced_of c.args.c _ _ _ _ _ _ _ _ _ _ _ _ _ c.spaced.ensures (f.ensures.long ∙ c.requires.targets_len.0) c.content_of.ensures c.is_reversed.ensures c.requires.targets_len.1 c.requires.targets_len.2 c.requires.targets_len.3 m.ensures;
     }
