@@ -22,11 +22,10 @@ use Rattle.balance_rows.proofs.ProgramLaws.{first_prev}
 use Rattle.balance_run.specs.Reading.{RowsReadable, ReadOut}
 use Rattle.balance_run.specs.Run.{BalanceIn, BalanceOut}
 
-pub fit_range : (sums : List Float) (gap : Float) (limit : Option Units) (fit : List ℕ) → FitsOut sums gap limit fit → length fit ≡ length sums → FitRange fit
-fit_range sums gap limit fit F e = record { lo = λ s h. F.lo s (omega arith); hi = λ s h. omega (arith, F.hi s (omega arith)) }
+pub fit_range : {sums : List Float} {gap : Float} {limit : Option Units} {fit : List ℕ} → FitsOut sums gap limit fit → length fit ≡ length sums → FitRange fit
+fit_range F e = record { lo = λ s h. F.lo s (omega arith); hi = λ s h. omega (arith, F.hi s (omega arith)) }
 
-module _ (sums : List Float) (gap : Float) (limit : Option Units) (fit greedy : List ℕ) (fl : length fit ≡ length sums) (gl : length greedy ≡ length sums)
-    (F : FitsOut sums gap limit fit) where
+module _ {sums : List Float} {gap : Float} {limit : Option Units} {fit : List ℕ} (fl : length fit ≡ length sums) (F : FitsOut sums gap limit fit) where
   fits_are : (I : BalanceIn sums gap limit) (s : ℕ) → s < length I.xs → FitEnd I.L I.g I.xs s (ends fit s)
   fits_are I s h = F.are I.L I.g I.xs I.sums_are I.limit_is s (omega (arith, I.sums_are.count))
 
@@ -38,7 +37,7 @@ module _ (sums : List Float) (gap : Float) (limit : Option Units) (fit greedy : 
     );
   }
 
-  module _ (G : CountsFrom fit greedy 0) where
+  module _ {greedy : List ℕ} (G : CountsFrom fit greedy 0) where
     pub tables : (I : BalanceIn sums gap limit) → TablesAre I.L I.g I.xs sums gap fit greedy
     tables I = record {
       sums_are = I.sums_are;
@@ -49,8 +48,8 @@ module _ (sums : List Float) (gap : Float) (limit : Option Units) (fit greedy : 
     pub table_laws : (I : BalanceIn sums gap limit) → Laws (length I.xs) (ends fit) (count_at greedy) (ZeroAt I.xs) (square_at I.g I.xs)
     table_laws I = laws I.L I.g I.xs (ends fit) (count_at greedy) (tables I).fits_are (tables I).counts_are
 
-    pub greedy_falling : BalanceIn sums gap limit → Falling greedy
-    greedy_falling I = record {
+    pub greedy_falling : length greedy ≡ length sums → BalanceIn sums gap limit → Falling greedy
+    greedy_falling gl I = record {
       falls = λ s t l h. g_mono (length I.xs) (ends fit) (count_at greedy) (ZeroAt I.xs) (square_at I.g I.xs) (table_laws I) s t l (omega (arith, I.sums_are.count));
     }
 
@@ -68,7 +67,7 @@ pub record Made (sums : List Float) (gap : Float) (limit : Option Units) (minimu
   pub first : (s : ℕ) → s < length sums → get_or prev s nan ≡ mul binary64 (size_f sums gap s (length sums - 1)) (size_f sums gap s (length sums - 1))
   pub k_is : K ≡ max (get_or greedy 0 0) (held minimum (length sums))
 
-module _ (sums : List Float) (gap : Float) (limit : Option Units) (minimum : ℕ) (prev₁ : List Float) (fit greedy reach : List ℕ) (K : ℕ)
+module _ {sums : List Float} {gap : Float} {limit : Option Units} {minimum : ℕ} {prev₁ : List Float} {fit greedy reach : List ℕ} {K : ℕ}
     (M : Made sums gap limit minimum prev₁ fit greedy reach K) where
   pub k_hi : K ≤ length sums
   k_hi = omega (arith, M.k_is, M.some, M.fit_length, M.counts.few 0 zero-le zero-le)
@@ -80,7 +79,7 @@ module _ (sums : List Float) (gap : Float) (limit : Option Units) (minimum : ℕ
   rows_room p m e f = rw (e, f) (omega (arith, mul-le-mul {n₁ = K} {m₁ = length sums} {n₂ = length sums} {m₂ = length sums} k_hi (le_refl (length sums))))
 
   pub made_tables : (I : BalanceIn sums gap limit) → TablesAre I.L I.g I.xs sums gap fit greedy
-  made_tables = tables sums gap limit fit greedy M.fit_length M.greedy-length M.fits M.counts
+  made_tables = tables M.fit_length M.fits M.counts
 
   pub row_base : BalanceIn sums gap limit → RowBase sums fit greedy reach prev₁
   row_base I = record {
@@ -89,12 +88,12 @@ module _ (sums : List Float) (gap : Float) (limit : Option Units) (minimum : ℕ
     fit_length = M.fit_length ∙ sym M.prev_length;
     greedy-length = M.greedy-length ∙ sym M.prev_length;
     reach_length = M.reach_length ∙ sym M.prev_length;
-    range = fit_range sums gap limit fit M.fits M.fit_length;
-    falling = greedy_falling sums gap limit fit greedy M.fit_length M.greedy-length M.fits M.counts I;
+    range = fit_range M.fits M.fit_length;
+    falling = greedy_falling M.fit_length M.fits M.counts M.greedy-length I;
     reaches = M.reaches;
   }
 
-  module _ (prev₂ : List Float) (opts : List ℕ) (R : RowsSoFar sums gap fit greedy reach K prev₁ prev₂ opts (K + 1)) where
+  module _ {prev₂ : List Float} {opts : List ℕ} (R : RowsSoFar sums gap fit greedy reach K prev₁ prev₂ opts (K + 1)) where
     abbrev pub readable : BalanceIn sums gap limit → RowsReadable opts (length sums) K
     readable I = record {
       g = I.g;
@@ -105,7 +104,7 @@ module _ (sums : List Float) (gap : Float) (limit : Option Units) (minimum : ℕ
       n_is = sym I.sums_are.count;
       fit_length = M.fit_length ∙ I.sums_are.count;
       reaches = M.reaches;
-      law = table_laws sums gap limit fit greedy M.fit_length M.greedy-length M.fits M.counts I;
+      law = table_laws M.fit_length M.fits M.counts I;
       rows = λ k a b. (R.out I.L I.g I.xs (made_tables I) (first_prev I.L I.g I.xs sums gap fit greedy reach prev₁ (K - 1) (made_tables I) M.first)).1 k a b;
       start = record { enough = omega (arith, M.k_is); room = omega (arith, k_hi, I.sums_are.count) };
     }

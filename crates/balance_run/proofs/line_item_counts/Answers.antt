@@ -24,58 +24,40 @@ made c =
 
 pub forward-requires : goal.forward-requires
 forward-requires c =
-    let a = c.args in
-    let p = c.requires.given in
+    let given = c.requires.given in
     let q = c.requires.room in
-    let fe = c.fit_ends in
-    let sg = c.suffix_greedy in
-    let fl : length fe.new.fit ≡ length a.sums.up_to.now = fe.auto.fit ∙ q.2 in
-    let gl : length sg.new.greedy ≡ length a.sums.up_to.now = sg.auto.greedy ∙ q.3 in (
-      omega (arith, fl, q.4),
-      omega (arith, fl, p.2),
-      fit_range a.sums.up_to.now a.sums.gap.0 a.limit fe.new.fit fe.ensures fl,
-      fit_rising a.sums.up_to.now a.sums.gap.0 a.limit fe.new.fit sg.new.greedy fl gl fe.ensures p.0,
+    let fits = c.fit_ends in
+    let long : length fits.new.fit ≡ length c.args.sums.up_to.now = fits.auto.fit ∙ q.2 in (
+      omega (arith, long, q.4),
+      omega (arith, long, given.2),
+      fit_range fits.ensures long,
+      fit_rising long fits.ensures given.0,
     )
 
 pub rows-requires : goal.rows-requires
 rows-requires c =
-    let a = c.args in
     let q = c.requires.room in
     let prev = c.first_row.new.prev in
-    let fit = c.fit_ends.new.fit in
-    let greedy = c.suffix_greedy.new.greedy in
-    let reach = c.forward.new.reach in
-    let K = c.max-line_count.result in
     let m = made (goal.at.rows-requires c).After-first_row in (
-      row_base a.sums.up_to.now a.sums.gap.0 a.limit a.minimum prev fit greedy reach K m c.requires.given.0,
+      row_base m c.requires.given.0,
       omega (arith, q.1, m.prev_length),
-      k_lo a.sums.up_to.now a.sums.gap.0 a.limit a.minimum prev fit greedy reach K m,
-      omega (arith, k_hi a.sums.up_to.now a.sums.gap.0 a.limit a.minimum prev fit greedy reach K m, m.prev_length),
-      rows_room a.sums.up_to.now a.sums.gap.0 a.limit a.minimum prev fit greedy reach K m (length prev) (length a.opts.now) m.prev_length q.5,
+      k_lo m,
+      omega (arith, k_hi m, m.prev_length),
+      rows_room m (length prev) (length c.args.opts.now) m.prev_length q.5,
     )
 
 pub read_back-requires : goal.read_back-requires
 read_back-requires c =
-    let a = c.args in
     let q = c.requires.room in
-    let prev = c.first_row.new.prev in
-    let fit = c.fit_ends.new.fit in
-    let greedy = c.suffix_greedy.new.greedy in
-    let reach = c.forward.new.reach in
-    let K = c.max-line_count.result in
     let m = made (goal.at.read_back-requires c).After-first_row in
-    let opts = c.rows.new.opts in
-    let top = k_hi a.sums.up_to.now a.sums.gap.0 a.limit a.minimum prev fit greedy reach K m in (
-      readable a.sums.up_to.now a.sums.gap.0 a.limit a.minimum prev fit greedy reach K m c.rows.new.prev opts c.rows.ensures c.requires.given.0,
+    let opts = c.rows.new.opts in (
+      readable m c.rows.ensures c.requires.given.0,
       c.requires.given.2,
-      k_lo a.sums.up_to.now a.sums.gap.0 a.limit a.minimum prev fit greedy reach K m,
-      top,
-      omega (arith, top, q.6),
-      rows_room a.sums.up_to.now a.sums.gap.0 a.limit a.minimum prev fit greedy reach K m (length a.sums.up_to.now) (length opts) refl (c.rows.auto.opts ∙ q.5),
+      k_lo m,
+      k_hi m,
+      omega (arith, k_hi m, q.6),
+      rows_room m (length c.args.sums.up_to.now) (length opts) refl (c.rows.auto.opts ∙ q.5),
     )
 
 pub returns : goal.returns
-returns c =
-    let a = c.args in
-    finish a.sums.up_to.now a.sums.gap.0 a.limit a.minimum c.first_row.new.prev c.fit_ends.new.fit c.suffix_greedy.new.greedy c.forward.new.reach c.max-line_count.result (made (goal.at.returns c).After-first_row)
-    c.rows.new.prev c.rows.new.opts c.rows.ensures c.read_back.new.counts c.read_back.ensures
+returns c = finish (made (goal.at.returns c).After-first_row) c.rows.ensures c.read_back.new.counts c.read_back.ensures
