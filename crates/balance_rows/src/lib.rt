@@ -16,12 +16,12 @@ use std::ops::Range;
 
 // Fills these starts of a row: the middle one by its choice, and the two halves by calls of itself, each with the ends
 // that its starts may still need, of these ends.
-fn fill_row(row: Row, cur: &mut [f64], opts: &mut [u32], starts: Range<usize>, ends: Range<usize>)
-    requires { Safe row.sums.up_to.now row.fit.now row.below.now row.max_end ends.end
-        × (starts.end ≤ row.max_end + 1) × (length cur.old ≡ length row.below.now)
-        × (length opts.old ≡ length row.below.now) }
-    ensures { RowOut row.entry.sums.up_to.now row.entry.sums.gap.0 row.entry.fit.now row.entry.below.now
-        row.entry.max_end starts.start starts.end ends.start ends.end cur.old cur.new opts.old opts.new }
+fn fill_row(row: &Row, cur: &mut [f64], opts: &mut [u32], starts: Range<usize>, ends: Range<usize>)
+    requires { Safe row.now.sums.up_to.now row.now.fit.now row.now.below.now row.now.max_end ends.end
+        × (starts.end ≤ row.now.max_end + 1) × (length cur.old ≡ length row.now.below.now)
+        × (length opts.old ≡ length row.now.below.now) }
+    ensures { RowOut row.now.sums.up_to.now row.now.sums.gap.0 row.now.fit.now row.now.below.now row.now.max_end
+        starts.start starts.end ends.start ends.end cur.old cur.new opts.old opts.new }
 {
     if starts.start < starts.end {
         let start = starts.start + (starts.end - starts.start) / 2;
@@ -107,7 +107,7 @@ fn one_row(
         below: prev,
         max_end,
     };
-    fill_row(row, cur, opts, start_lo..start_hi, end_lo..max_end + 1);
+    fill_row(&row, cur, opts, start_lo..start_hi, end_lo..max_end + 1);
     copy_row(prev, cur, start_lo, start_hi);
 }
 

@@ -7,11 +7,11 @@ use Rattle.balance_rows.proofs.+fill_row.Goals as goal
 use Rattle.balance_rows.proofs.+fill_row.Goals.{Joined-starts-start, then-starts-start, else-starts-start}
 
 -- the starts before the middle one, whether there are any or not
-left : (t : ℕ) (c : Joined-starts-start t) → RowOut c.args.row.sums.up_to.now c.args.row.sums.gap.0 c.args.row.fit.now c.args.row.below.now c.args.row.max_end c.args.starts.start (c.args.starts.start + (c.args.starts.end - c.args.starts.start) / 2) c.args.ends.start c.pick-picked.result.hi
+left : (t : ℕ) (c : Joined-starts-start t) → RowOut c.args.row.now.sums.up_to.now c.args.row.now.sums.gap.0 c.args.row.now.fit.now c.args.row.now.below.now c.args.row.now.max_end c.args.starts.start (c.args.starts.start + (c.args.starts.end - c.args.starts.start) / 2) c.args.ends.start c.pick-picked.result.hi
     (set c.args.cur.now (c.args.starts.start + (c.args.starts.end - c.args.starts.start) / 2) c.cost.result.0) c.if-starts-start.cur (set c.args.opts.now (c.args.starts.start + (c.args.starts.end - c.args.starts.start) / 2) c.pick-picked.result.end) c.if-starts-start.opts
 left t c =
     let a = c.args in
-    let r = a.row in
+    let r = a.row.now in
     let s : ℕ = a.starts.start + (a.starts.end - a.starts.start) / 2 in
     elim c.if-starts-start.branch [
       | then-starts-start w ↦ rw (w.cur-is, w.opts-is) w.fill_row.ensures
@@ -21,11 +21,11 @@ left t c =
 
 -- the whole range, from what the starts after the middle one give
 whole : (t : ℕ) (c : Joined-starts-start t) (cur : List Float) (opts : List ℕ)
-    → RowOut c.args.row.sums.up_to.now c.args.row.sums.gap.0 c.args.row.fit.now c.args.row.below.now c.args.row.max_end (c.args.starts.start + (c.args.starts.end - c.args.starts.start) / 2 + 1) c.args.starts.end c.pick-picked.result.lo c.args.ends.end c.if-starts-start.cur cur c.if-starts-start.opts opts
-    → RowOut c.args.row.sums.up_to.now c.args.row.sums.gap.0 c.args.row.fit.now c.args.row.below.now c.args.row.max_end c.args.starts.start c.args.starts.end c.args.ends.start c.args.ends.end c.args.cur.now cur c.args.opts.now opts
+    → RowOut c.args.row.now.sums.up_to.now c.args.row.now.sums.gap.0 c.args.row.now.fit.now c.args.row.now.below.now c.args.row.now.max_end (c.args.starts.start + (c.args.starts.end - c.args.starts.start) / 2 + 1) c.args.starts.end c.pick-picked.result.lo c.args.ends.end c.if-starts-start.cur cur c.if-starts-start.opts opts
+    → RowOut c.args.row.now.sums.up_to.now c.args.row.now.sums.gap.0 c.args.row.now.fit.now c.args.row.now.below.now c.args.row.now.max_end c.args.starts.start c.args.starts.end c.args.ends.start c.args.ends.end c.args.cur.now cur c.args.opts.now opts
 whole t c cur opts right =
     let a = c.args in
-    let r = a.row in
+    let r = a.row.now in
     let p = c.requires in
     let k = c.pick-picked in
     let g = c.if-starts.true in
@@ -43,7 +43,7 @@ returns-then-next-starts t c =
 pub returns-else-next-starts : goal.returns-else-next-starts
 returns-else-next-starts t c =
     let a = c.args in
-    let r = a.row in
+    let r = a.row.now in
     let j = c.if-starts-start in
     let s : ℕ = a.starts.start + (a.starts.end - a.starts.start) / 2 in
     whole t (goal.at.returns-else-next-starts t c).Joined-starts-start j.cur j.opts
