@@ -8,7 +8,8 @@ ghost use Rattle.capture_feed.specs.Machine.{ReaderReady};
 use capture_format::{BrokenAt, Head, Parsed, Stage, parse};
 use keywords::AvailableSpace;
 
-// Where the reading of a capture stands between two bytes. It comes from `start` and `feed` alone.
+// Where the reading of a capture stands between two bytes. It comes from `start` and `feed` alone. What holds of it is
+// asked by `ReaderReady` and not kept by the type, since `fed_resumes` and `said` speak of any record of these fields.
 #[derive(Clone, Copy)]
 pub struct Reader {
     pub stage: Stage,

@@ -1,7 +1,6 @@
 // The program: a capture on standard input, its answer on standard output.
 #![tactic(auto)]
 
-ghost use Rattle.std.specs.Prelude.{◌≡◌, length};
 ghost use Rattle.capture_feed.specs.Machine.{ReaderReady};
 ghost use Rattle.capture_program.specs.Turned.{Turned};
 
@@ -26,9 +25,7 @@ fn read_some(input: &mut impl Read, reader: &mut Reader, sizes: &mut [f32; 64]) 
     n
 }
 
-fn print(rt: &impl Print, reply: Result<u32, Fault>, counts: &[u32]) -> io::Result<()>
-    requires { length counts.now ≡ 64 }
-{
+fn print(rt: &impl Print, reply: Result<u32, Fault>, counts: &[u32; 64]) -> io::Result<()> {
     let mut text = [0u8; 2048];
     let n = capture_text::spell(reply, counts, &mut text);
     rt.write_all(&text[..n])
