@@ -1,5 +1,5 @@
 -- What a record's bytes say, case by case, and that a record which was seen, or a fault, stays as more bytes come. Assumes nothing.
-use mathlib.Core.Path.{◌≡◌, refl, sym, ◌∙◌, ap, subst}
+use mathlib.Core.Path.{◌≡◌, sym, ◌∙◌, ap, subst}
 use mathlib.Core.List.{List, [], ◌∷◌, ◌++◌}
 use Prim.Native.Nat.{ℕ, suc, ◌<◌, ◌≤◌}
 use lib.ListN.{length, get_or, length-append, get_or-append}
@@ -8,11 +8,6 @@ use borrow.Author.Tests.{eq-eqb, ne_eqb, le-leb, lt-leb}
 use native.Mathlib.Omega.{arith}
 use Rattle.capture_format.specs.Format.{head_of, float_at, kind, first_front, later_front}
 use Rattle.capture_format.specs.declared.Parsed.TheVariants.{Head, Item, End, Partial, Broken}
-
-pub none_second : (l : List ℕ) → length l < 2 → get_or l 1 0 ≡ 0
-none_second [] h = refl
-none_second (a ∷ []) h = refl
-none_second (a ∷ (b ∷ l)) h = absurd (omega arith)
 
 seconds : (l : List ℕ) → 2 < get_or l 1 0 → 1 < length l
 seconds [] h = absurd (omega arith)
@@ -31,9 +26,6 @@ module _ (l : List ℕ) where
   pub first_cut : kind l ≡ 1 → get_or l 1 0 ≤ 2 → length l < 12 → first_front l ≡ Partial
   unfolding first_front
   first_cut k h n = simp (eq-eqb _ _ k, le-leb _ _ h, lt-leb _ _ n)
-
-  pub first_short : kind l ≡ 1 → length l < 2 → first_front l ≡ Partial
-  first_short k n = first_cut k (omega (arith, none_second l n)) (omega arith)
 
   pub first_head : kind l ≡ 1 → get_or l 1 0 ≤ 2 → 12 ≤ length l → first_front l ≡ Head (head_of l)
   unfolding first_front

@@ -8,7 +8,7 @@ use native.Mathlib.Numerals.{add-one}
 use native.Mathlib.Nat.{add-zero}
 use lib.Dec.{ltb}
 use lib.ListN.{length, get_or, take, length-append}
-use lib.Seq.{take-suc, take_all}
+use lib.Seq.{take-suc}
 use borrow.Author.Tests.{lt-ltb, le-ltb}
 use Rattle.checks.specs.Domain.{where_of, refusal_of}
 use Rattle.checks.specs.declared.Place.{Place}
@@ -83,9 +83,6 @@ pub record Counted (counts : List ℕ) (before now : Text) (i : ℕ) : Type 0 wh
   pub text : Puts (spaced (take i counts)) before now
   pub short : now.length ≤ before.length + 21 * i
 
-pub counted_none : (counts : List ℕ) (text : Text) → Counted counts text text 0
-counted_none counts text = record { text = put_none text; short = omega arith }
-
 pub counted_next : {counts : List ℕ} {before now after : Text} {i : ℕ} → Counted counts before now i → i < length counts
     → Puts (32 ∷ decimal (get_or counts i 0)) now after → Counted counts before after (i + 1)
 counted_next {counts} {before} {now} {after} {i} c h p = record {
@@ -95,9 +92,6 @@ counted_next {counts} {before} {now} {after} {i} c h p = record {
   where
     e : take (i + 1) counts ≡ take i counts ++ (get_or counts i 0 ∷ [])
     e = rw add-one (take-suc counts i 0 h)
-
-pub counted_all : {counts : List ℕ} {before now : Text} {i : ℕ} → Counted counts before now i → length counts ≤ i → Puts (spaced counts) before now
-counted_all {counts} {before} {now} {i} c h = subst (λ (l : List ℕ). Puts (spaced l) before now) (take_all i counts h) c.text
 
 -- ---- how long a text is
 
