@@ -1,10 +1,9 @@
 -- The theorem of the balanced call that docs/PROMISES.md names. No contract cites it; proofs/Balance.antt fills it.
 -- Assumes nothing.
 use Rattle.std.specs.Prelude.{◌≡◌, List, ℕ, Float}
-use Rattle.checks.specs.Domain.{Number}
+use Rattle.checks.specs.Domain.{Number, Answer}
 use Rattle.keywords.specs.declared.AvailableSpace.{AvailableSpace}
 use Rattle.balance.specs.Calls.{BreakLent, BalancedCall}
-use Rattle.checks.specs.declared.Answer.{Answer}
 
 pub record Promised : Type 0 where
   -- the contract of `balanced` leaves no choice

@@ -1,11 +1,10 @@
 -- The theorems of greedy breaking that docs/PROMISES.md names. No contract cites it; proofs/BreakGreedy.antt fills it.
 -- Assumes nothing.
 use Rattle.std.specs.Prelude.{◌≡◌, List, [], ◌∷◌, ℕ, suc, ◌<◌, length, get_or, replicate, ℤ, Float}
-use Rattle.checks.specs.Domain.{Number}
+use Rattle.checks.specs.Domain.{Number, Answer}
 use Rattle.keywords.specs.declared.AvailableSpace.{AvailableSpace}
 use Rattle.break_greedy.specs.Breaking.{Limit, min_content, max_content, greedy}
 use Rattle.break_greedy.specs.Calls.{greedy_result, greedy_call}
-use Rattle.checks.specs.declared.Answer.{Answer}
 use Rattle.break_greedy.proofs.Lines.{total, AllLines}
 
 pub record Promised : Type 0 where

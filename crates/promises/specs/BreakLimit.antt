@@ -2,8 +2,7 @@
 -- Assumes nothing.
 use Rattle.std.specs.Prelude.{◌≡◌}
 use Rattle.break_limit.specs.declared.Query.{Query}
-use Rattle.break_limit.specs.Limit.{limit_call}
-use Rattle.break_limit.specs.declared.BreakLimit.{BreakLimit}
+use Rattle.break_limit.specs.Limit.{BreakLimit, limit_call}
 
 pub record Promised : Type 0 where
   -- the contract of `break_limit` leaves no choice

@@ -1,11 +1,9 @@
 -- The theorems of a capture's answer that docs/PROMISES.md names. No contract cites it; proofs/Capture.antt fills it.
 -- Assumes nothing.
-use Rattle.std.specs.Prelude.{◌≡◌, ◌↔◌, List, ℕ, length, replicate, Float}
-use Rattle.checks.specs.declared.Verdict.TheVariants.{Passed}
+use Rattle.std.specs.Prelude.{◌≡◌, ◌↔◌, List, ℕ, length, replicate, Float, Ok}
 use Rattle.capture_format.specs.Reading.{Reading, reading, as_written, as_read}
 use Rattle.capture_format.specs.Written.{Numbers, Readable, capture_bytes, sizes_said}
-use Rattle.capture_text.specs.declared.Reply.{Reply}
-use Rattle.capture_text.specs.declared.Reply.TheVariants.{Lines}
+use Rattle.capture_text.specs.Text.{Reply}
 use Rattle.capture.specs.Answer.{CaptureAnswered}
 use Rattle.break_greedy.specs.Calls.{count_cells}
 use Rattle.capture_format.specs.Reading.{one_each}
@@ -19,7 +17,7 @@ pub record Promised : Type 0 where
   -- of every list that breaking accepts, min-content with any minimum, and max-content with 65,535, name the same
   -- division
   pub same_division : (gap : Float) (minimum : ℕ) (sizes : List Float) (d : List ℕ)
-      → capture_verdict (old gap minimum) sizes ≡ Passed
+      → capture_verdict (old gap minimum) sizes ≡ Ok tt
       → Named (old gap minimum) sizes d ↔ Named (one_each gap) sizes d
   -- for any bytes: what the contract allows with min-content kept it allows as captures are read now, and nothing else
   pub same_allowed : (before : List ℕ) (r : Reply) (after l : List ℕ)
@@ -30,5 +28,5 @@ pub record Promised : Type 0 where
       → (r ≡ s) × (a ≡ c)
   -- a capture with limit kind 1 that is accepted has as many lines as items, and its counts are ones
   pub one_a_line : (before : List ℕ) (k : ℕ) (after : List ℕ) (c : Numbers) → Readable c → c.limit-kind ≡ 1
-      → CaptureAnswered (reading as_read (capture_bytes c)) before (Lines k) after → (k ≡ length (sizes_said c))
+      → CaptureAnswered (reading as_read (capture_bytes c)) before (Ok k) after → (k ≡ length (sizes_said c))
       × (after ≡ count_cells (length (sizes_said c)) (replicate (length (sizes_said c)) 1) before)

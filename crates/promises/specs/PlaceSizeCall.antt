@@ -3,8 +3,7 @@
 use Rattle.std.specs.Prelude.{◌≡◌}
 use Rattle.place_size.specs.CrossSize.{CrossLists}
 use Rattle.place_checks.specs.declared.numbers.CrossNumbers.{CrossNumbers}
-use Rattle.place_size_call.specs.SizeCall.{size_call}
-use Rattle.place_size_call.specs.declared.SizeAnswer.{SizeAnswer}
+use Rattle.place_size_call.specs.SizeCall.{SizeAnswer, size_call}
 
 pub record Promised : Type 0 where
   -- the contract of `size_line` leaves no choice
