@@ -70,60 +70,63 @@ fn three(rt: &impl Print, name: &str, sizes: [f32; 3]) -> io::Result<()> {
     }
 }
 
+// Spaces that are told by their number.
+const DEFINITE: [(&str, f32); 12] = [
+    ("100", 100.0),
+    ("-0.0", -0.0),
+    ("NaN", f32::NAN),
+    ("infinity", f32::INFINITY),
+    ("-infinity", -f32::INFINITY),
+    ("the least subnormal", 1e-45),
+    ("3.4e38", 3.4e38),
+    ("1/64", 0.015625),
+    ("1/128", 0.0078125),
+    ("262144", 262144.0),
+    ("-262144", -262144.0),
+    ("the float above 262144", 262144.03125),
+];
+
+// Spaces, minima and maxima.
+const BOUNDED: [(&str, AvailableSpace, Option<f32>, Option<f32>); 5] = [
+    (
+        "minimum -1/64",
+        AvailableSpace::MinContent,
+        Some(-0.015625),
+        None,
+    ),
+    ("minimum -0.0", AvailableSpace::MinContent, Some(-0.0), None),
+    (
+        "maximum 100 under max-content",
+        AvailableSpace::MaxContent,
+        None,
+        Some(100.0),
+    ),
+    (
+        "minimum off the grid, maximum NaN",
+        AvailableSpace::MinContent,
+        Some(0.01),
+        Some(f32::NAN),
+    ),
+    (
+        "maximum too large, available off the grid",
+        AvailableSpace::Definite(0.01),
+        None,
+        Some(300000.0),
+    ),
+];
+
 fn limits(rt: &impl Print) -> io::Result<()> {
-    for (name, x) in [
-        ("100", 100.0),
-        ("-0.0", -0.0),
-        ("NaN", f32::NAN),
-        ("infinity", f32::INFINITY),
-        ("-infinity", -f32::INFINITY),
-        ("the least subnormal", 1e-45),
-        ("3.4e38", 3.4e38),
-        ("1/64", 0.015625),
-        ("1/128", 0.0078125),
-        ("262144", 262144.0),
-        ("-262144", -262144.0),
-        ("the float above 262144", 262144.03125),
-    ] {
+    for (name, x) in DEFINITE {
         available(rt, name, x)?;
     }
-    for (name, available, minimum, maximum) in [
-        (
-            "minimum -1/64",
-            AvailableSpace::MinContent,
-            Some(-0.015625),
-            None,
-        ),
-        ("minimum -0.0", AvailableSpace::MinContent, Some(-0.0), None),
-        (
-            "maximum 100 under max-content",
-            AvailableSpace::MaxContent,
-            None,
-            Some(100.0),
-        ),
-        (
-            "minimum off the grid, maximum NaN",
-            AvailableSpace::MinContent,
-            Some(0.01),
-            Some(f32::NAN),
-        ),
-        (
-            "maximum too large, available off the grid",
-            AvailableSpace::Definite(0.01),
-            None,
-            Some(300000.0),
-        ),
-    ] {
-        limit(
-            rt,
-            name,
-            Query {
-                available,
-                minimum,
-                maximum,
-                ..ROW
-            },
-        )?;
+    for (name, available, minimum, maximum) in BOUNDED {
+        let query = Query {
+            available,
+            minimum,
+            maximum,
+            ..ROW
+        };
+        limit(rt, name, query)?;
     }
     Ok(())
 }
