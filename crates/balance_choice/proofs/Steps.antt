@@ -45,7 +45,7 @@ beats_no false true h = absurd (true≢false h)
 beats_no false false h = inr refl
 beats_no true b h = inl refl
 
-module _ (sums : List Float) (gap : Float) (prev : List Float) (base : Float) (first stop : ℕ) where
+module _ {sums : List Float} {gap : Float} {prev : List Float} {base : Float} {first stop : ℕ} where
   pub lead_start : (x : Float) → first < stop → zero_f sums gap first ≡ false → x ≡ cost_f sums prev base first → Leading sums gap prev base first stop (first + 1) first x
   lead_start x h z e = record {
     lo = le_refl first;
@@ -59,7 +59,7 @@ module _ (sums : List Float) (gap : Float) (prev : List Float) (base : Float) (f
     };
   }
 
-  module _ (end best : ℕ) (x y : Float) (L : Leading sums gap prev base first stop end best x) (es : end < stop) (ye : y ≡ cost_f sums prev base end) where
+  module _ {end best : ℕ} {x y : Float} (L : Leading sums gap prev base first stop end best x) (es : end < stop) (ye : y ≡ cost_f sums prev base end) where
     pub lead_take : cond (zero_f sums gap end) false (le y x) ≡ true → Leading sums gap prev base first stop (end + 1) end y
     lead_take t = record {
       lo = omega (arith, L.lo, L.hi);
@@ -114,8 +114,8 @@ module _ (sums : List Float) (gap : Float) (prev : List Float) (base : Float) (f
             at' u p l (inl e) = rw e (above (rw e at p.2))
             at' u p l (inr e) = (L.least c g).last u (p.0, e, p.2) l
 
-  pub lead_end : (end best : ℕ) (x : Float) → Leading sums gap prev base first stop end best x → stop ≤ end → LeastOf sums gap prev base first stop best
-  lead_end end best x L h =
+  pub lead_end : {end best : ℕ} {x : Float} → Leading sums gap prev base first stop end best x → stop ≤ end → LeastOf sums gap prev base first stop best
+  lead_end {end} {best} L h =
       let e : end ≡ stop = omega (arith, L.end_hi) in
       record { lo = L.lo; hi = omega (arith, L.hi); least = λ c g. subst (λ (i : ℕ). Argmin (λ e. (first ≤ e) × (e < i) × (zero_f sums gap e ≡ false)) c best) e (L.least c g) }
 
@@ -278,15 +278,12 @@ choose_one P true false near to p q = p
 choose_one P false b near to p q = p
 
 -- ---- one start's choice
-module _ (sums : List Float) (gap : Float) (fit : List ℕ) (prev : List Float) (maxEnd a b s first stop to : ℕ)
+to_lo : {sums : List Float} {fit : List ℕ} {prev : List Float} {maxEnd b s to : ℕ} → Safe sums fit prev maxEnd b → s ≤ maxEnd → to ≡ min (get_or fit s 0) maxEnd → s ≤ to
+to_lo {s = s} S sm te = omega (arith, S.fit_lo s (omega (arith, S.room)))
+
+module _ {sums : List Float} {gap : Float} {fit : List ℕ} {prev : List Float} {maxEnd a b s first stop to : ℕ}
     (S : Safe sums fit prev maxEnd b) (sm : s ≤ maxEnd) (f : FirstPlain sums gap (max a s) stop first) (stop_is : stop ≡ min b (get_or fit s 0 + 1))
     (te : to ≡ min (get_or fit s 0) maxEnd) where
-  pub to_lo : s ≤ to
-  to_lo = omega (arith, S.fit_lo s (omega (arith, S.room)))
-
-  pub to_hi : to ≤ maxEnd
-  to_hi = omega arith
-
   module _ (q : Ghost) (R : RowIn q sums gap fit prev maxEnd) (EF : EndsFeas q a b) (r : StartReady q fit s) where
     scan_of : Scan (length q.xs) (ends fit) q.G (ZeroAt q.xs) (square_at q.gap q.xs) (row_laws q sums gap fit prev maxEnd R) (value prev) q.k s a b first stop
     scan_of = record {
@@ -319,8 +316,8 @@ module _ (sums : List Float) (gap : Float) (fit : List ℕ) (prev : List Float) 
 
   pub pick-none : stop ≤ first → PickOut sums gap fit prev maxEnd a b s to first b
   pick-none h = record {
-    end_lo = to_lo;
-    end_hi = to_hi;
+    end_lo = to_lo S sm te;
+    end_hi = omega arith;
     lo_lo = omega (arith, f.lo);
     hi_hi = le_refl b;
     choice = λ q R EF r H. (
@@ -330,11 +327,11 @@ module _ (sums : List Float) (gap : Float) (fit : List ℕ) (prev : List Float) 
     );
   }
 
-  pub pick_some : (near e : ℕ) → LeastOf sums gap prev (base_f sums gap s) first stop near → e ≡ choose_f sums gap prev (base_f sums gap s) near to
+  pub pick_some : {near e : ℕ} → LeastOf sums gap prev (base_f sums gap s) first stop near → e ≡ choose_f sums gap prev (base_f sums gap s) near to
       → PickOut sums gap fit prev maxEnd a b s e near (near + 1)
-  pick_some near e l ee = record {
-    end_lo = rw ee (choose_one (λ (i : ℕ). s ≤ i) (zero_f sums gap to) (le (cost_f sums prev (base_f sums gap s) to) (cost_f sums prev (base_f sums gap s) near)) near to (omega (arith, f.lo, l.lo)) to_lo);
-    end_hi = rw ee (choose_one (λ (i : ℕ). i ≤ maxEnd) (zero_f sums gap to) (le (cost_f sums prev (base_f sums gap s) to) (cost_f sums prev (base_f sums gap s) near)) near to (omega (arith, l.hi, S.reach)) to_hi);
+  pick_some {near} {e} l ee = record {
+    end_lo = rw ee (choose_one (λ (i : ℕ). s ≤ i) (zero_f sums gap to) (le (cost_f sums prev (base_f sums gap s) to) (cost_f sums prev (base_f sums gap s) near)) near to (omega (arith, f.lo, l.lo)) (to_lo S sm te));
+    end_hi = rw ee (choose_one (λ (i : ℕ). i ≤ maxEnd) (zero_f sums gap to) (le (cost_f sums prev (base_f sums gap s) to) (cost_f sums prev (base_f sums gap s) near)) near to (omega (arith, l.hi, S.reach)) (omega arith));
     lo_lo = omega (arith, f.lo, l.lo);
     hi_hi = omega (arith, l.hi);
     choice = λ q R EF r H.
@@ -358,15 +355,15 @@ safe_part sums fit prev maxEnd b b' l S = record {
   fit_hi = S.fit_hi;
 }
 
-module _ (sums : List Float) (gap : Float) (fit : List ℕ) (prev : List Float) (maxEnd lo hi a b : ℕ) where
-  pub row_empty : (cur : List Float) (opts : List ℕ) → hi ≤ lo → RowOut sums gap fit prev maxEnd lo hi a b cur cur opts opts
-  row_empty cur opts h = record {
+module _ {sums : List Float} {gap : Float} {fit : List ℕ} {prev : List Float} {maxEnd lo hi a b : ℕ} where
+  pub row_empty : {cur : List Float} {opts : List ℕ} → hi ≤ lo → RowOut sums gap fit prev maxEnd lo hi a b cur cur opts opts
+  row_empty h = record {
     cur_kept = λ s _. refl;
     opts_kept = λ s _. refl;
     filled = λ q R EF all s p l. absurd (omega arith);
   }
 
-  module _ (cur cur₁ cur₂ : List Float) (opts opts₁ opts₂ : List ℕ) (s e right left : ℕ) (x : Float) (ls : lo ≤ s) (sh : s < hi) (sc : s < length cur) (so : s < length opts)
+  module _ {cur cur₁ cur₂ : List Float} {opts opts₁ opts₂ : List ℕ} {s e right left : ℕ} {x : Float} (ls : lo ≤ s) (sh : s < hi) (sc : s < length cur) (so : s < length opts)
       (P : PickOut sums gap fit prev maxEnd a b s e right left) (xe : x ≡ cost_f sums prev (base_f sums gap s) e)
       (A : RowOut sums gap fit prev maxEnd lo s a left (set cur s x) cur₁ (set opts s e) opts₁)
       (B : RowOut sums gap fit prev maxEnd (s + 1) hi right b cur₁ cur₂ opts₁ opts₂) where

@@ -44,12 +44,12 @@ row_safe sums fit prev lines S = record {
   fit_hi = λ s h. omega (arith, S.range.hi s (omega (arith, S.fit_length)), S.fit_length);
 }
 
-pub one_row : (sums : List Float) (gap : Float) (fit : List ℕ) (prev : List Float) (lines lo last seen hi : ℕ) (cur₀ cur prev' : List Float) (opts₀ opts : List ℕ)
+pub one_row : {sums : List Float} {gap : Float} {fit : List ℕ} {prev : List Float} {lines lo last seen hi : ℕ} {cur₀ cur prev' : List Float} {opts₀ opts : List ℕ}
     → hi ≡ min (length prev - lines) last + 1
     → RowOut sums gap fit prev (length prev - lines) lo hi (seen - 1) (length prev - lines + 1) cur₀ cur opts₀ opts
     → ((s : ℕ) → lo ≤ s → s < hi → get_or prev' s nan ≡ get_or cur s nan)
     → OneRow sums gap fit prev lines lo last seen prev' opts
-one_row sums gap fit prev lines lo last seen hi cur₀ cur prev' opts₀ opts he O copied = record { out = out' }
+one_row {sums} {gap} {fit} {prev} {lines} {lo} {last} {seen} {hi} {cur₀} {cur} {prev'} {opts₀} {opts} he O copied = record { out = out' }
   where
     out' : (q : Ghost) → RowIn q sums gap fit prev (length prev - lines) → RowFor q fit lo last seen
         → (s : ℕ) → lo ≤ s → s ≤ last → Feas (length q.xs) q.G s (suc q.k)
@@ -87,7 +87,7 @@ one_row sums gap fit prev lines lo last seen hi cur₀ cur prev' opts₀ opts he
 pub rows_start : (sums : List Float) (gap : Float) (fit greedy reach : List ℕ) (K : ℕ) (prev : List Float) (opts : List ℕ) → RowsSoFar sums gap fit greedy reach K prev prev opts 2
 rows_start sums gap fit greedy reach K prev opts = record { out = λ L g xs T P. (P, λ k a b. absurd (omega arith)) }
 
-pub rows_more : (sums : List Float) (gap : Float) (fit greedy reach : List ℕ) (K : ℕ) (prev₀ prev prev' : List Float) (opts part opts' : List ℕ) (lines row from lo last seen : ℕ)
+pub rows_more : {sums : List Float} {gap : Float} {fit greedy reach : List ℕ} {K : ℕ} {prev₀ prev prev' : List Float} {opts part opts' : List ℕ} {lines row from lo last seen : ℕ}
     → 2 ≤ lines → lines ≤ K → K ≤ length sums → length prev ≡ length sums → length fit ≡ length sums → length greedy ≡ length sums → row ≡ (lines - 2) * length sums
     → Falling greedy → Reaches fit reach → FirstFor greedy lines from → FirstFor greedy (lines - 1) seen → lo ≡ max from (K - lines) → last ≡ get_or reach (K - lines) 0
     → RowsSoFar sums gap fit greedy reach K prev₀ prev opts lines
@@ -95,7 +95,7 @@ pub rows_more : (sums : List Float) (gap : Float) (fit greedy reach : List ℕ) 
     → ((s : ℕ) → s < length sums → get_or opts' (row + s) 0 ≡ get_or part s 0)
     → ((i : ℕ) → i < row → get_or opts' i 0 ≡ get_or opts i 0)
     → RowsSoFar sums gap fit greedy reach K prev₀ prev' opts' (lines + 1)
-rows_more sums gap fit greedy reach K prev₀ prev prev' opts part opts' lines row from lo last seen two top Kn pl fl gl re D A ff fs loe lae R O here kept = record { out = out' }
+rows_more {sums} {gap} {fit} {greedy} {reach} {K} {prev₀} {prev} {prev'} {opts} {part} {opts'} {lines} {row} {from} {lo} {last} {seen} two top Kn pl fl gl re D A ff fs loe lae R O here kept = record { out = out' }
   where
     out' : (L : Limit) (g : ℕ) (xs : List ℕ) → TablesAre L g xs sums gap fit greedy → PrevIs g xs fit greedy reach prev₀ 1 (K - 1)
         → PrevIs g xs fit greedy reach prev' (lines + 1 - 1) (K - (lines + 1 - 1))

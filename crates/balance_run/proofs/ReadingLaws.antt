@@ -31,7 +31,7 @@ read_start opts n K counts h = record {
   reads = λ R. reads_start (length R.xs) (ends R.fit) (count_at R.greedy) (ZeroAt R.xs) (square_at R.g R.xs) R.law K;
 }
 
-module _ (opts : List ℕ) (n K : ℕ) (counts : List ℕ) (start lines i : ℕ) (P : ReadSoFar opts n K counts start lines i) where
+module _ {opts : List ℕ} {n K : ℕ} {counts : List ℕ} {start lines i : ℕ} (P : ReadSoFar opts n K counts start lines i) where
   pub read_row : 1 < lines → (R : RowsReadable opts n K) → RowKept R.g R.xs R.fit R.greedy R.reach opts ((lines - 2) * n) (lines - 1) i
   read_row h R =
       let e : lines - 1 - 1 ≡ lines - 2 = omega arith in

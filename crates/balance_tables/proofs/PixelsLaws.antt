@@ -88,9 +88,9 @@ pub add_start : (sizes : List Float) (gap : Float) (sums : List Float) → AddSo
 unfolding of_bits
 add_start sizes gap sums = record { so_far = λ g xs S. record { acc_is = (refl, refl); sums_are = λ j h. absurd (omega arith) } }
 
-pub add-more : (sizes : List Float) (gap : Float) (sums : List Float) (acc size : Float) (i : ℕ) → i < length sizes → length sums ≡ length sizes → SizeOut (get_or sizes i nan) size
+pub add-more : {sizes : List Float} {gap : Float} {sums : List Float} {acc size : Float} {i : ℕ} → i < length sizes → length sums ≡ length sizes → SizeOut (get_or sizes i nan) size
     → AddSoFar sizes gap sums acc i → AddSoFar sizes gap (set sums i (add binary64 acc (add binary64 size gap))) (add binary64 acc (add binary64 size gap)) (i + 1)
-add-more sizes gap sums acc size i h e O A = record {
+add-more {sizes} {gap} {sums} {acc} {size} {i} h e O A = record {
   so_far = λ g xs S.
       let ix : i < length xs = omega (arith, S.count) in
       sums_more g xs sums gap size acc i ix (omega arith) S.small S.gap_is

@@ -56,7 +56,7 @@ pub record FitSoFar (sums : List Float) (gap : Float) (most : Option Units) (fit
   pub starts_at : start ≡ 0 → end ≡ 0
   pub are : (L : Limit) (g : ℕ) (xs : List ℕ) → SumsAre g xs sums gap → LimitIs L most → (s : ℕ) → s < start → FitEnd L g xs s (ends fit s)
 
-module _ (sums : List Float) (gap : Float) (most : Option Units) where
+module _ {sums : List Float} {gap : Float} {most : Option Units} where
   pub fit_start : (fit : List ℕ) → FitSoFar sums gap most fit 0 0
   fit_start fit = record {
     end_hi = λ h. h;
@@ -67,9 +67,9 @@ module _ (sums : List Float) (gap : Float) (most : Option Units) where
     are = λ L g xs S T s h. absurd (omega arith);
   }
 
-  pub fit_more : (fit : List ℕ) (start end r : ℕ) → start < length sums → length fit ≡ length sums → FitSoFar sums gap most fit start end
+  pub fit_more : {fit : List ℕ} {start end r : ℕ} → start < length sums → length fit ≡ length sums → FitSoFar sums gap most fit start end
       → StretchOut sums gap most start (max end start) r → FitSoFar sums gap most (set fit start r) (start + 1) r
-  fit_more fit start end r sn fl P O = record {
+  fit_more {fit} {start} {end} {r} sn fl P O = record {
     end_hi = λ _. O.so_far.hi;
     lo = λ s h. at_lo s h (order s start);
     hi = λ s h. at_hi s h (order s start);

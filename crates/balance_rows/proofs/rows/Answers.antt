@@ -1,6 +1,6 @@
 -- `balance_rows::rows` meets its contract: the rows so far are kept, and the last one stands in `prev` (`rows_more` of ProgramLaws.antt).
-use Rattle.std.proofs.Common.{◌≡◌, ◌+◌, ◌-◌, ◌≤◌, ◌++◌, length, get_or, length-take, length-drop, refl, ◌∙◌, arith}
-use borrow.Rule.Slice.PartMut.{put_mid, post_of}
+use Rattle.std.proofs.Common.{◌≡◌, ◌+◌, ◌-◌, ◌≤◌, ◌++◌, length, length-take, length-drop, refl, ◌∙◌, arith}
+use borrow.Rule.Slice.PartMut.{post_of}
 use Rattle.balance_tables.specs.Tables.{FirstFor}
 use Rattle.balance_rows.proofs.ProgramLaws.{rows_more, row_fits, row_next, mid_here, mid_before}
 use Rattle.balance_rows.proofs.rows.Goals as goal
@@ -34,9 +34,7 @@ loop-lines-preserved c =
       row_is = row_next l.lines n l.row l.auto.lines l.invariant.row_is;
       seen_first = first;
       seen_hi = omega (arith, from.ensures.1, l.invariant.seen_hi);
-      so_far = rows_more a.sums.up_to.now a.sums.gap.0 a.tables.fit.now a.tables.greedy.now a.tables.reach.now a.line_count a.prev.now l.prev one.new.prev l.opts part
-          (put_mid l.row (l.row + n - l.row) l.opts part) l.lines l.row from.result c.max-start_lo.result (get_or a.tables.reach.now (a.line_count - l.lines) 0) l.seen
-          l.auto.lines (omega (arith, t)) (omega (arith, c.requires.3, b.sums_length)) (omega (arith, l.auto.prev, b.sums_length)) (omega (arith, b.fit_length, b.sums_length)) (omega (arith, b.greedy-length, b.sums_length)) l.invariant.row_is
+      so_far = rows_more l.auto.lines (omega (arith, t)) (omega (arith, c.requires.3, b.sums_length)) (omega (arith, l.auto.prev, b.sums_length)) (omega (arith, b.fit_length, b.sums_length)) (omega (arith, b.greedy-length, b.sums_length)) l.invariant.row_is
           b.falling b.reaches from.ensures.0 l.invariant.seen_first c.max-start_lo.ensures refl l.invariant.so_far one.ensures
           (λ s h. mid_here l.row l.opts part (post_of l.row (l.row + n - l.row) l.opts) s (omega (arith, fit)) (omega (arith, part_length)))
           (λ i h. mid_before l.row l.opts (part ++ post_of l.row (l.row + n - l.row) l.opts) i (omega (arith, fit)) h);

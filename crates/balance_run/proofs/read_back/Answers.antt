@@ -22,14 +22,14 @@ overflow_sub-counts c =
     let a = c.args in
     let l = c.loop-i in
     let t : 1 < a.line_count - l.i = omega arith in
-    omega (arith, (read_choice a.opts.now a.n a.line_count l.counts l.start (a.line_count - l.i) l.i l.invariant t c.requires.0).has.ok.some)
+    omega (arith, (read_choice l.invariant t c.requires.0).has.ok.some)
 
 pub overflow_cast-counts : goal.overflow_cast-counts
 overflow_cast-counts c =
     let a = c.args in
     let l = c.loop-i in
     let t : 1 < a.line_count - l.i = omega arith in
-    omega (arith, (read_choice a.opts.now a.n a.line_count l.counts l.start (a.line_count - l.i) l.i l.invariant t c.requires.0).has.ok.inside, c.requires.0.n_is, c.requires.1)
+    omega (arith, (read_choice l.invariant t c.requires.0).has.ok.inside, c.requires.0.n_is, c.requires.1)
 
 pub loop-i-preserved : goal.loop-i-preserved
 loop-i-preserved c =
@@ -37,11 +37,11 @@ loop-i-preserved c =
     let l = c.loop-i in
     let t : 1 < a.line_count - l.i = omega arith in
     let e : a.line_count - (l.i + 1) ≡ a.line_count - l.i - 1 = omega arith in
-    rw e (read_more a.opts.now a.n a.line_count l.counts l.start (a.line_count - l.i) l.i l.invariant (get_or a.opts.now ((a.line_count - l.i - 2) * a.n + l.start) 0 - l.start + 1) t (omega (arith, c.requires.4, l.auto.counts)) refl c.requires.0)
+    rw e (read_more l.invariant (get_or a.opts.now ((a.line_count - l.i - 2) * a.n + l.start) 0 - l.start + 1) t (omega (arith, c.requires.4, l.auto.counts)) refl c.requires.0)
 
 pub returns : goal.returns
 returns c =
     let a = c.args in
     let l = c.loop-i in
     let e : a.line_count - 1 ≡ l.i = omega arith in
-    rw e (read_end a.opts.now a.n a.line_count l.counts l.start (a.line_count - l.i) l.i l.invariant (a.n - l.start) (omega arith) (omega (arith, c.requires.4, l.auto.counts)) refl)
+    rw e (read_end l.invariant (a.n - l.start) (omega arith) (omega (arith, c.requires.4, l.auto.counts)) refl)

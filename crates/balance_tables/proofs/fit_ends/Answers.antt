@@ -5,6 +5,5 @@ use Rattle.balance_tables.proofs.fit_ends.Goals as goal
 
 pub loop-start-preserved : goal.loop-start-preserved
 loop-start-preserved c =
-    let a = c.args in
     let l = c.loop-start in
-    fit_more a.sums.up_to.now a.sums.gap.0 a.limit l.fit l.start l.end c.stretch-end.result c.loop-start-test.true (omega (arith, l.auto.fit, c.requires.0)) l.invariant (rw c.max.ensures at c.stretch-end.ensures)
+    fit_more c.loop-start-test.true (omega (arith, l.auto.fit, c.requires.0)) l.invariant (rw c.max.ensures at c.stretch-end.ensures)

@@ -5,18 +5,14 @@ use Rattle.balance_choice.proofs.Row.least.Goals.{then-beats, else-beats}
 
 pub loop-end-preserved : goal.loop-end-preserved
 loop-end-preserved c =
-    let r = c.args.self in
     let l = c.loop-end in
     let t = c.loop-end-test.true in
     elim c.if-beats.branch [
       | then-beats w ↦ rw (w.best-is, w.best_cost-is)
-          (lead_take r.sums.up_to.now r.sums.gap.0 r.below.now c.args.base.0 c.args.first c.args.stop l.end l.best l.best_cost.0 c.cost-cost.result.0 l.invariant t c.cost-cost.ensures (rw c.beats.ensures at w.if-beats.true))
+          (lead_take l.invariant t c.cost-cost.ensures (rw c.beats.ensures at w.if-beats.true))
       | else-beats w ↦ rw (w.best-is, w.best_cost-is)
-          (lead_keep r.sums.up_to.now r.sums.gap.0 r.below.now c.args.base.0 c.args.first c.args.stop l.end l.best l.best_cost.0 c.cost-cost.result.0 l.invariant t c.cost-cost.ensures (rw c.beats.ensures at w.if-beats.false))
+          (lead_keep l.invariant t c.cost-cost.ensures (rw c.beats.ensures at w.if-beats.false))
     ]
 
 pub returns : goal.returns
-returns c =
-    let r = c.args.self in
-    let l = c.loop-end in
-    lead_end r.sums.up_to.now r.sums.gap.0 r.below.now c.args.base.0 c.args.first c.args.stop l.end l.best l.best_cost.0 l.invariant c.loop-end-test.false
+returns c = lead_end c.loop-end.invariant c.loop-end-test.false

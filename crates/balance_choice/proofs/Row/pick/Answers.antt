@@ -4,18 +4,11 @@ use Rattle.balance_choice.proofs.Row.pick.Goals as goal
 
 pub returns-then-first-stop : goal.returns-then-first-stop
 returns-then-first-stop c =
-    let a = c.args in
-    let r = a.self in
     let st = c.requires in
-    pick_some r.sums.up_to.now r.sums.gap.0 r.fit.now r.below.now r.max_end a.ends.start a.ends.end a.start c.skip_zeros-first.result c.min-stop.result c.min-far.result st.0 st.1
-    (rw c.max-from.ensures at c.skip_zeros-first.ensures) c.min-stop.ensures c.min-far.ensures
-    c.least-near.result c.choose-end.result (rw st.2 at c.least-near.ensures) (rw st.2 at c.choose-end.ensures)
+    pick_some st.0 st.1 (rw c.max-from.ensures at c.skip_zeros-first.ensures) c.min-stop.ensures c.min-far.ensures
+    (rw st.2 at c.least-near.ensures) (rw st.2 at c.choose-end.ensures)
 
 pub returns-else-first-stop : goal.returns-else-first-stop
 returns-else-first-stop c =
-    let a = c.args in
-    let r = a.self in
     let st = c.requires in
-    pick-none r.sums.up_to.now r.sums.gap.0 r.fit.now r.below.now r.max_end a.ends.start a.ends.end a.start c.skip_zeros-first.result c.min-stop.result c.min-far.result st.0 st.1
-    (rw c.max-from.ensures at c.skip_zeros-first.ensures) c.min-stop.ensures c.min-far.ensures
-    c.if-first-stop.false
+    pick-none st.0 st.1 (rw c.max-from.ensures at c.skip_zeros-first.ensures) c.min-stop.ensures c.min-far.ensures c.if-first-stop.false

@@ -5,6 +5,5 @@ use Rattle.balance_tables.proofs.pixels.add_up.Goals as goal
 
 pub loop-i-preserved : goal.loop-i-preserved
 loop-i-preserved c =
-    let a = c.args in
     let l = c.loop-i in
-    add-more a.sizes.now a.gap.0 l.sums l.sum c.to_size.result.0 l.i c.loop-i-test.true (l.auto.sums ∙ c.requires.0) c.to_size.ensures l.invariant
+    add-more c.loop-i-test.true (l.auto.sums ∙ c.requires.0) c.to_size.ensures l.invariant
