@@ -108,12 +108,12 @@ under sizes gap g e (suc i) h =
       ap nat_abs e,
     )
 
-module _ (limit : AvailableSpace) (gap : Float) (sizes : List Float) (B : Breakable limit gap sizes) where
+module _ {limit : AvailableSpace} {gap : Float} {sizes : List Float} (B : Breakable limit gap sizes) where
   pub sizes_not_nan : (i : ℕ) → i < length sizes → T (not (is_nan (get_or sizes i nan)))
   sizes_not_nan i h = not_nan (get_or sizes i nan) (B.each.each i h)
 
-  abbrev pub run_given : (gapU : Float) (most : Option Units) → SizeOut gap gapU → LimitIs (natural (limit_of limit)) most → RunIn sizes gapU most
-  run_given gapU most G L =
+  abbrev pub run_given : {gapU : Float} {most : Option Units} → SizeOut gap gapU → LimitIs (natural (limit_of limit)) most → RunIn sizes gapU most
+  run_given G L =
       let g : ℕ = B.gap_not_below_0.0 in
       let e : sixty_fourths gap ≡ pos g = B.gap_not_below_0.1 in
       record {
@@ -131,10 +131,10 @@ module _ (limit : AvailableSpace) (gap : Float) (sizes : List Float) (B : Breaka
         limit_is = L;
       }
 
-  pub divided : (gapU : Float) (most : Option Units) (minimum r : ℕ) (counts : List ℕ) → SizeOut gap gapU → LimitIs (natural (limit_of limit)) most
+  pub divided : {gapU : Float} {most : Option Units} {minimum r : ℕ} {counts : List ℕ} → SizeOut gap gapU → LimitIs (natural (limit_of limit)) most
       → RunOut sizes gapU most minimum r counts → BalancedCounts limit gap minimum sizes r counts
-  divided gapU most minimum r counts G L O =
-      let I = run_given gapU most G L in
+  divided {minimum = minimum} G L O =
+      let I = run_given G L in
       record {
         division = O.division;
         balanced = rw B.gap_not_below_0.1 (balanced_is (limit_of limit) I.g (units sizes) minimum O.division (O.balanced I));

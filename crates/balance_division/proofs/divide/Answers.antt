@@ -16,14 +16,11 @@ pub counts_of_sizes-lines-requires-clause-given : goal.counts_of_sizes-lines-req
 counts_of_sizes-lines-requires-clause-given c =
     let b = c.args.breaking in
     let given = c.requires.breakable in (
-      run_given b.limit b.gap b.sizes.now given c.to_size-gap.result.0 c.most-most.result c.to_size-gap.ensures c.most-most.ensures,
+      run_given given c.to_size-gap.ensures c.most-most.ensures,
       omega (arith, eqb-false (length b.sizes.now) 0 (sym c.if-is_empty.ensures)),
       given.few,
-      sizes_not_nan b.limit b.gap b.sizes.now given,
+      sizes_not_nan given,
     )
 
 pub returns-clause-balanced_counts : goal.returns-clause-balanced_counts
-returns-clause-balanced_counts c =
-    let b = c.args.breaking in
-    let run = c.counts_of_sizes-lines in
-    divided b.limit b.gap b.sizes.now c.requires.breakable c.to_size-gap.result.0 c.most-most.result b.minimum run.result run.new.counts c.to_size-gap.ensures c.most-most.ensures run.ensures
+returns-clause-balanced_counts c = divided c.requires.breakable c.to_size-gap.ensures c.most-most.ensures c.counts_of_sizes-lines.ensures
