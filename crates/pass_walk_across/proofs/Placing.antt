@@ -11,42 +11,23 @@ use borrow.Author.Count.{below_none, below_more}
 use borrow.Rule.Slice.PartMut.{mid_of, put_mid, mid_len}
 use Rattle.lists.specs.ByLine.{line_start, part, Division}
 use Rattle.place_size.specs.CrossSize.{CrossLists, count}
+use Rattle.place_size.specs.Lists as lent
 use Rattle.place_cross.specs.CrossAxis.{Across}
-use Rattle.place_cross.specs.Parts.{SameLengths, AcrossRoom}
 use Rattle.pass_walk.specs.Sizes.{cross_line}
 use Rattle.pass_walk_across.specs.Cross.{AcrossLines}
 use Rattle.pass_walk_across.specs.Parts.{AcrossReady}
 use Rattle.lists.proofs.Walk.{Here, start_none, start_next, ends-within, lent_is, Front, front-none, step, front_next, past_of, all_cells, same_parts}
-use Rattle.pass_walk.proofs.Sizing.{lent_items, lent_items_lem, Inside, inside_of, lent_even}
+use Rattle.pass_walk.proofs.Sizing.{Inside, part_is}
 
 -- ---- one line
 
 -- what a turn may use: the line's range lies inside every list
-pub record Turn (ls : CrossLists) (alignment auto-size : List ℕ) (sizes starts ends offsets : List Float) (from to : ℕ) : Type 0 where
+pub record Turn (ls : CrossLists) (sizes starts ends offsets : List Float) (from to : ℕ) : Type 0 where
   pub inside : Inside ls from to
-  pub in_alignment : to ≤ length alignment
-  pub in_auto_size : to ≤ length auto-size
   pub in_sizes : to ≤ length sizes
   pub in_starts : to ≤ length starts
   pub in_ends : to ≤ length ends
   pub in_offsets : to ≤ length offsets
-
--- the stage's own requirements
-module _ {ls : CrossLists} {alignment auto-size : List ℕ} {sizes starts ends offsets : List Float} {from to : ℕ} (t : Turn ls alignment auto-size sizes starts ends offsets from to) where
-  pub lent_lengths : SameLengths (lent_items from to ls) (mid_of from (to - from) alignment) (mid_of from (to - from) auto-size)
-  lent_lengths =
-      let n = mid_len from to ls.measured t.inside.in_measured in
-      record { even = lent_even t.inside; alignment_length = mid_len from to alignment t.in_alignment ∙ sym n; auto_length = mid_len from to auto-size t.in_auto_size ∙ sym n }
-
-  pub lent_room : AcrossRoom (length (mid_of from (to - from) ls.measured)) (mid_of from (to - from) sizes) (mid_of from (to - from) starts) (mid_of from (to - from) ends) (mid_of from (to - from) offsets)
-  lent_room =
-      let n = mid_len from to ls.measured t.inside.in_measured in
-      record {
-        sizes_room = omega (arith, n, mid_len from to sizes t.in_sizes);
-        starts_room = omega (arith, n, mid_len from to starts t.in_starts);
-        ends_room = omega (arith, n, mid_len from to ends t.in_ends);
-        offsets_room = omega (arith, n, mid_len from to offsets t.in_offsets);
-      }
 
 module _ {reversed : Bool} where
   -- all cells of a line are written
@@ -57,7 +38,7 @@ module _ {reversed : Bool} where
   moved f g h i p = record { sizes_are = sym f ∙ p.sizes_are; starts_are = sym g ∙ p.starts_are; ends_are = sym h ∙ p.ends_are; offsets_are = sym i ∙ p.offsets_are }
 
   -- by equals
-  same_input : {x x' : Float} {ls ls' : CrossLists} {a a' z z' : List ℕ} {u₀ s₀ e₀ o₀ u s e o : List Float} → x ≡ x' → ls ≡ ls' → a ≡ a' → z ≡ z' → Across x reversed ls a z u₀ s₀ e₀ o₀ u s e o → Across x' reversed ls' a' z' u₀ s₀ e₀ o₀ u s e o
+  pub same_input : {x x' : Float} {ls ls' : CrossLists} {a a' z z' : List ℕ} {u₀ s₀ e₀ o₀ u s e o : List Float} → x ≡ x' → ls ≡ ls' → a ≡ a' → z ≡ z' → Across x reversed ls a z u₀ s₀ e₀ o₀ u s e o → Across x' reversed ls' a' z' u₀ s₀ e₀ o₀ u s e o
   same_input {x} {x'} {ls} {ls'} {a} {a'} {z} {z'} {u₀} {s₀} {e₀} {o₀} {u} {s} {e} {o} f g h i p =
       subst (λ (y : Float). Across y reversed ls' a' z' u₀ s₀ e₀ o₀ u s e o) f
       (subst (λ (y : CrossLists). Across x reversed y a' z' u₀ s₀ e₀ o₀ u s e o) g
@@ -99,13 +80,11 @@ module _ (reversed : Bool) (counts : List ℕ) (lines : List Float) (ls : CrossL
       at_line : Here counts from to j
       at_line = record { starts = g.here; ends = refl }
 
-      pub turn_of : Turn ls alignment auto-size sizes starts ends offsets from to
+      pub turn_of : Turn ls sizes starts ends offsets from to
       turn_of =
           let w = ends-within ready.division h at_line in
           record {
-            inside = inside_of ready.lengths.even (omega arith) w;
-            in_alignment = omega (arith, ready.lengths.alignment_length);
-            in_auto_size = omega (arith, ready.lengths.auto_length);
+            inside = record { forward = omega arith; counted = w; few = omega (arith, ready.lengths.even.few) };
             in_sizes = omega (arith, ready.room.sizes_room, g.sizes_front.long);
             in_starts = omega (arith, ready.room.starts_room, g.starts_front.long);
             in_ends = omega (arith, ready.room.ends_room, g.ends-front.long);
@@ -119,11 +98,11 @@ module _ (reversed : Bool) (counts : List ℕ) (lines : List Float) (ls : CrossL
       -- one line more
       pub placing_next : {x : Float} (u s e o : List Float) → length u ≡ length (mid_of from (to - from) sizes) → length s ≡ length (mid_of from (to - from) starts) → length e ≡ length (mid_of from (to - from) ends) → length o ≡ length (mid_of from (to - from) offsets)
           → x ≡ get_or lines j nan
-          → Across x reversed (lent_items from to ls) (mid_of from (to - from) alignment) (mid_of from (to - from) auto-size) (mid_of from (to - from) sizes) (mid_of from (to - from) starts) (mid_of from (to - from) ends) (mid_of from (to - from) offsets) u s e o
+          → Across x reversed (lent.part from to ls) (mid_of from (to - from) alignment) (mid_of from (to - from) auto-size) (mid_of from (to - from) sizes) (mid_of from (to - from) starts) (mid_of from (to - from) ends) (mid_of from (to - from) offsets) u s e o
           → Placing reversed counts lines ls alignment auto-size sizes₀ starts₀ ends₀ offsets₀ (put_mid from (to - from) sizes u) (put_mid from (to - from) starts s) (put_mid from (to - from) ends e) (put_mid from (to - from) offsets o) to (j + 1)
       placing_next u s e o lu ls' le lo x_is p =
           let t = turn_of in
-          let n = mid_len from to ls.measured t.inside.in_measured in
+          let n = mid_len from to ls.measured t.inside.counted in
           let ru : to ≤ length sizes₀ = omega (arith, t.in_sizes, g.sizes_front.long) in
           let rs : to ≤ length starts₀ = omega (arith, t.in_starts, g.starts_front.long) in
           let re : to ≤ length ends₀ = omega (arith, t.in_ends, g.ends-front.long) in
@@ -137,7 +116,7 @@ module _ (reversed : Bool) (counts : List ℕ) (lines : List Float) (ls : CrossL
             inside = omega arith;
             across = below_more (Line-across (put_mid from (to - from) sizes u) (put_mid from (to - from) starts s) (put_mid from (to - from) ends e) (put_mid from (to - from) offsets o)) j
                 (λ i m. moved (su.earlier i m) (ss.earlier i m) (se.earlier i m) (so.earlier i m) (g.across i m))
-                (moved su.own ss.own se.own so.own (same_input x_is (lent_items_lem ls at_line) (lent_is at_line alignment) (lent_is at_line auto-size)
+                (moved su.own ss.own se.own so.own (same_input x_is (part_is ls at_line) (lent_is at_line alignment) (lent_is at_line auto-size)
                 (fresh (omega (arith, mid_len from to sizes t.in_sizes)) (omega (arith, mid_len from to starts t.in_starts)) (omega (arith, mid_len from to ends t.in_ends)) (omega (arith, mid_len from to offsets t.in_offsets)) p)));
             sizes_front = front_next counts u at_line ru lu g.sizes_front;
             starts_front = front_next counts s at_line rs ls' g.starts_front;
