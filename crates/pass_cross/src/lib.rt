@@ -9,9 +9,8 @@ ghost use Rattle.pass_container.specs.Container.{cross_axis};
 ghost use Rattle.pass_cross.specs.CrossStage.{CrossReady, AlignedLines, LinesPlaced, PlacedAcross, ItemsAcross};
 
 use keywords::{content_of, is_reversed, wrap_of};
-use pass_checks::cross_numbers;
-use pass_container::Container;
-use pass_container::columns::{code_column, column, store_column, store_four};
+use pass_container::columns::{store_column, store_four};
+use pass_container::{Container, Items};
 use pass_walk::cross_sizes;
 use pass_walk_across::across_by_line;
 use place_checks::numbers::cross_of;
@@ -21,55 +20,33 @@ use place_size::container::Cross;
 fn cross_axis(c: Container) -> Cross
     ensures { result ≡ cross_axis c }
 {
-    cross_of(cross_numbers(c))
+    cross_of(c.into())
 }
 
 // The size of each line, from its own items.
-fn size_lines<'a>(
-    c: Container,
-    n: usize,
-    numbers: &'a [f32],
-    codes: &'a [u32],
-    counts: &'a [u32],
-    sizes: &mut [f32],
-)
-    requires { CrossReady n numbers.now codes.now counts.now × (n ≤ length sizes.old) }
+fn size_lines(c: Container, items: Items, counts: &[u32], sizes: &mut [f32])
+    requires { CrossReady items.count items.numbers.now items.codes.now counts.now × (items.count ≤ length sizes.old) }
     ensures { sizes.new ≡ cross_sizes (cross_axis c) counts.now
-        (cross_items n numbers.now codes.now) sizes.old }
+        (cross_items items.entry.count items.entry.numbers.now items.entry.codes.now) sizes.old }
 {
-    cross_sizes(
-        cross_axis(c),
-        counts,
-        column(numbers, n, 8),
-        column(numbers, n, 9),
-        column(numbers, n, 10),
-        code_column(codes, n, 3),
-        column(numbers, n, 11),
-        column(numbers, n, 12),
-        column(numbers, n, 13),
-        code_column(codes, n, 4),
-        code_column(codes, n, 5),
-        sizes,
-    );
+    cross_sizes(cross_axis(c), counts, items.cross(), sizes);
 }
 
 // The lines' sizes, stretched, their offsets, and the container's inner cross size.
-fn align_sized<'a>(
+fn align_sized(
     c: Container,
-    n: usize,
-    numbers: &'a [f32],
-    codes: &'a [u32],
-    counts: &'a [u32],
+    items: Items,
+    counts: &[u32],
     sizes: &mut [f32],
     offsets: &mut [f32],
 ) -> f32
-    requires { CrossReady n numbers.now codes.now counts.now × (n ≤ length sizes.old)
-        × (n ≤ length offsets.old) }
-    ensures { AlignedLines c n numbers.now codes.now counts.now
+    requires { CrossReady items.count items.numbers.now items.codes.now counts.now × (items.count ≤ length sizes.old)
+        × (items.count ≤ length offsets.old) }
+    ensures { AlignedLines c items.entry.count items.entry.numbers.now items.entry.codes.now counts.now
         sizes.old offsets.old result sizes.new offsets.new }
 {
     let mut asked = [0.0; 1024];
-    size_lines(c, n, numbers, codes, counts, &mut asked);
+    size_lines(c, items, counts, &mut asked);
     let k = counts.len();
     align_lines(
         cross_axis(c),
@@ -81,51 +58,35 @@ fn align_sized<'a>(
 }
 
 // The same in the two lists by line that the pass is lent. No entry point.
-pub fn lines_along<'a>(
-    c: Container,
-    n: usize,
-    numbers: &'a [f32],
-    codes: &'a [u32],
-    counts: &'a [u32],
-    lines: &mut [f32],
-) -> f32
-    requires { CrossReady n numbers.now codes.now counts.now × (2 * n ≤ length lines.old) }
-    ensures { LinesPlaced c n numbers.now codes.now counts.now result
+pub fn lines_along(c: Container, items: Items, counts: &[u32], lines: &mut [f32]) -> f32
+    requires { CrossReady items.count items.numbers.now items.codes.now counts.now × (2 * items.count ≤ length lines.old) }
+    ensures { LinesPlaced c items.entry.count items.entry.numbers.now items.entry.codes.now counts.now result
         lines.old lines.new }
 {
+    let n = items.count;
     let mut sizes = [0.0; 1024];
     let mut offsets = [0.0; 1024];
-    let inner = align_sized(
-        c,
-        n,
-        numbers,
-        codes,
-        counts,
-        &mut sizes[..n],
-        &mut offsets[..n],
-    );
+    let inner = align_sized(c, items, counts, &mut sizes[..n], &mut offsets[..n]);
     store_column(&sizes[..n], n, 0, lines);
     store_column(&offsets[..n], n, 1, lines);
     inner
 }
 
 // The items across their lines: cross sizes, used margins and offsets.
-fn across_lines<'a>(
+fn across_lines(
     c: Container,
-    n: usize,
-    numbers: &'a [f32],
-    codes: &'a [u32],
-    counts: &'a [u32],
-    line_sizes: &'a [f32],
+    items: Items,
+    counts: &[u32],
+    line_sizes: &[f32],
     sizes: &mut [f32],
     starts: &mut [f32],
     ends: &mut [f32],
     offsets: &mut [f32],
 )
-    requires { CrossReady n numbers.now codes.now counts.now × (n ≤ length line_sizes.now)
-        × (n ≤ length sizes.old) × (n ≤ length starts.old) × (n ≤ length ends.old)
-        × (n ≤ length offsets.old) }
-    ensures { PlacedAcross c n numbers.now codes.now counts.now
+    requires { CrossReady items.count items.numbers.now items.codes.now counts.now × (items.count ≤ length line_sizes.now)
+        × (items.count ≤ length sizes.old) × (items.count ≤ length starts.old) × (items.count ≤ length ends.old)
+        × (items.count ≤ length offsets.old) }
+    ensures { PlacedAcross c items.entry.count items.entry.numbers.now items.entry.codes.now counts.now
         line_sizes.now sizes.old starts.old ends.old
         offsets.old sizes.new starts.new ends.new offsets.new }
 {
@@ -133,17 +94,7 @@ fn across_lines<'a>(
         is_reversed(wrap_of(c.wrap)),
         counts,
         line_sizes,
-        column(numbers, n, 8),
-        column(numbers, n, 9),
-        column(numbers, n, 10),
-        code_column(codes, n, 3),
-        column(numbers, n, 11),
-        column(numbers, n, 12),
-        column(numbers, n, 13),
-        code_column(codes, n, 4),
-        code_column(codes, n, 5),
-        code_column(codes, n, 6),
-        code_column(codes, n, 7),
+        items.across(),
         sizes,
         starts,
         ends,
@@ -152,29 +103,26 @@ fn across_lines<'a>(
 }
 
 // The same in the last four lists by item that the pass is lent. No entry point.
-pub fn items_across<'a>(
+pub fn items_across(
     c: Container,
-    n: usize,
-    numbers: &'a [f32],
-    codes: &'a [u32],
-    counts: &'a [u32],
-    line_sizes: &'a [f32],
+    items: Items,
+    counts: &[u32],
+    line_sizes: &[f32],
     placed: &mut [f32],
 )
-    requires { CrossReady n numbers.now codes.now counts.now × (n ≤ length line_sizes.now)
-        × (8 * n ≤ length placed.old) }
-    ensures { ItemsAcross c n numbers.now codes.now counts.now
+    requires { CrossReady items.count items.numbers.now items.codes.now counts.now × (items.count ≤ length line_sizes.now)
+        × (8 * items.count ≤ length placed.old) }
+    ensures { ItemsAcross c items.entry.count items.entry.numbers.now items.entry.codes.now counts.now
         line_sizes.now placed.old placed.new }
 {
+    let n = items.count;
     let mut sizes = [0.0; 1024];
     let mut starts = [0.0; 1024];
     let mut ends = [0.0; 1024];
     let mut offsets = [0.0; 1024];
     across_lines(
         c,
-        n,
-        numbers,
-        codes,
+        items,
         counts,
         line_sizes,
         &mut sizes[..n],
