@@ -3,28 +3,28 @@ use mathlib.Core.Path.{◌≡◌, refl, sym, ap, ◌∙◌, subst}
 use mathlib.Core.Bool.{Bool}
 use mathlib.Core.List.{List}
 use Prim.Native.Nat.{ℕ, zero, suc, ◌+◌, ◌*◌, ◌≤◌}
-use native.Mathlib.Nat.{le_trans, le_of_eq}
+use native.Mathlib.Nat.{le_trans, le_of_eq, zero-add}
 use native.Mathlib.Omega.{arith}
 use lib.Dec.{eqb}
-use lib.ListN.{length}
+use lib.ListN.{length, take}
 use lib.Ieee.{Float}
 use Rattle.grid.specs.Grid.{sixty_fourths, cleaned}
 use Rattle.grid.specs.Values.{Length}
 use Rattle.grid.proofs.Meaning.{at_of_grid, grid_of_at}
 use Rattle.grid.proofs.Cleaned.{cleaned_at}
-use Rattle.checks.specs.Domain.{float, shape, summed, then}
+use Rattle.checks.specs.Domain.{float, shape, summed, then, Verdict}
 use Rattle.checks.specs.Optional.{optional}
 use Rattle.checks.specs.Marks.{least_mark, judged, AllFine, SoundInput}
 use Rattle.checks.specs.declared.Refusal.{Refusal}
-use Rattle.checks.specs.declared.Verdict.{Verdict}
-use Rattle.checks.specs.declared.Verdict.TheVariants.{Passed}
-use Rattle.checks.specs.declared.Verdict.TheVariants as verdict
+use Rattle.std.specs.declared.result.Result.TheVariants.{Ok, Err}
 use Rattle.checks.specs.declared.Kind.TheVariants as kind
 use Rattle.checks.proofs.Checks.{judged-checked, accepted, then_passed, shape_passed, fine-append, fine-length, fine_size}
 use Rattle.break_greedy.specs.Steps.{LengthLimit}
+use Rattle.flex.specs.declared.Item.{Item}
+use Rattle.flex.specs.Accepted.{Measured, Every}
 use Rattle.flex.specs.Flex.{outer_sum}
 use Rattle.flex_table.specs.Table.{Wide, items_in, Tabled, Held}
-use Rattle.flex_table.proofs.Columns.{tabled_of}
+use Rattle.flex_table.proofs.Items.{tabled_of, first_items, every_part}
 use Rattle.flex_checks.specs.Input.{input_of}
 use Rattle.flex_checks.proofs.Accept.{inner_length, gap_length, measured_of, refused_then, passed_then}
 use Rattle.balance.specs.Calls as balance
@@ -42,8 +42,7 @@ use Rattle.pass_checks.proofs.Taken.{number_length}
 use Rattle.pass_checks.proofs.Rooms.{Roomy, roomy_of}
 use Rattle.pass.specs.Laid.{PassLent}
 use Rattle.pass.specs.Stages.{PassAccepted}
-use Rattle.pass.specs.declared.PassAnswer.{PassAnswer}
-use Rattle.pass.specs.Pass.{PassAnswered}
+use Rattle.pass.specs.Pass.{PassAnswer, PassAnswered}
 use Rattle.pass.specs.Checked.{PassChecked}
 
 -- ---- the container's numbers
@@ -70,23 +69,23 @@ module _ (c : Container) (n : ℕ) (x : List Float) (codes : List ℕ) (room : B
   abbrev first : Verdict
   first = then (shape n room) (judged (least_mark (pass_input c n x codes)))
 
-  pub refused_so : (why : Refusal) → first ≡ verdict.Refused why → pass_verdict c n x codes room ≡ verdict.Refused why
+  pub refused_so : (why : Refusal) → first ≡ Err why → pass_verdict c n x codes room ≡ Err why
   unfolding pass_verdict
   refused_so why h = refused_then (shape n room) (pass_input c n x codes) (summed (pass_sum c n x codes)) why (λ e. (shape_passed n room e).0) h
 
-  pub passed_so : first ≡ Passed → pass_verdict c n x codes room ≡ summed (pass_sum c n x codes)
+  pub passed_so : first ≡ Ok tt → pass_verdict c n x codes room ≡ summed (pass_sum c n x codes)
   unfolding pass_verdict
   passed_so h = passed_then (shape n room) (pass_input c n x codes) (summed (pass_sum c n x codes)) (λ e. (shape_passed n room e).0) h
 
-  pub sound_so : first ≡ Passed → (shape n room ≡ Passed) × SoundInput (pass_input c n x codes)
+  pub sound_so : first ≡ Ok tt → (shape n room ≡ Ok tt) × SoundInput (pass_input c n x codes)
   sound_so h =
       let p = then_passed (shape n room) (judged (least_mark (pass_input c n x codes))) h in
       let few = (shape_passed n room p.0).0 in
-      (p.0, (accepted (pass_input c n x codes) Passed (sym (judged-checked (pass_input c n x codes) few Passed) ∙ ap (λ (v : Verdict). then v Passed) p.1)).0)
+      (p.0, (accepted (pass_input c n x codes) (Ok tt) (sym (judged-checked (pass_input c n x codes) few (Ok tt)) ∙ ap (λ (v : Verdict). then v (Ok tt)) p.1)).0)
 
 -- ---- the table of the frame
 
-pub wide_of : (t : List Float) (n : ℕ) → length t ≡ 8192 → n ≤ 1024 → Wide t n
+pub wide_of : (t : List Item) (n : ℕ) → length t ≡ 1024 → n ≤ 1024 → Wide t n
 wide_of t n h few = (few, omega (arith, h))
 
 -- ---- all of it
@@ -118,9 +117,16 @@ module _ {c : Container} {n : ℕ} {x : List Float} {codes : List ℕ} {b : Pass
   pub gap_is : Length (cleaned c.gap_main)
   gap_is = gap_length c.inner_main c.gap_main (main_lists n x codes) sound_main
 
-  module _ (t : List Float) (wide : Wide t n) (held : Held (main_lists n x codes) t) where
+  module _ (t : List Item) (wide : Wide t n) (held : Held (main_lists n x codes) t) where
     pub table_is : Tabled t n
     table_is = subst (Tabled t) count_is (tabled_of (main_lists n x codes) t held (measured_of c.inner_main c.gap_main (main_lists n x codes) sound_main))
+
+    -- the part of it that has the items
+    pub first_are : take n t ≡ items_in t 0 n
+    first_are = first_items t n wide.1
+
+    pub all_measured : Every Measured (take n t)
+    all_measured = subst (Every Measured) (sym first_are) (every_part t 0 n n table_is (le_of_eq (zero-add n)))
 
     pub accepted_of : outer_sum (cleaned c.gap_main) (items_in t 0 n) ≤ 16777216 → PassAccepted c n t x codes b
     accepted_of w =

@@ -13,7 +13,7 @@ use Rattle.grid.specs.Floats.{nought}
 use Rattle.flex.specs.declared.Item.{Item}
 use Rattle.flex.specs.Items.{item_at, items_of}
 use Rattle.flex_table.specs.Table.{items_in, Held}
-use Rattle.flex_table.proofs.Columns.{items_are}
+use Rattle.flex_table.proofs.Items.{items_are}
 use Rattle.flex_lines.specs.Lines.{FlexedLines}
 use Rattle.keywords.specs.Alignment.{content_of}
 use Rattle.pass_walk.specs.Main.{MainLines}
@@ -42,12 +42,12 @@ first_long n m l h k = length-take-le n l (omega arith)
 
 -- ---- the table holds the items
 
-pub items_in_lem : {n : ℕ} (t : List Float) {x : List Float} {codes : List ℕ} → ItemLists n x codes → Held (main_lists n x codes) t → items_in t 0 n ≡ items_of (main_lists n x codes)
+pub items_in_lem : {n : ℕ} (t : List Item) {x : List Float} {codes : List ℕ} → ItemLists n x codes → Held (main_lists n x codes) t → items_in t 0 n ≡ items_of (main_lists n x codes)
 items_in_lem {n} t {x} {codes} l held = ap (items_in t 0) (sym (number_length l 0 (omega arith))) ∙ items_are (main_lists n x codes) t held
 
 -- ---- what the main axis asks
 
-pub main_ready : {c : Container} {n : ℕ} {t x : List Float} {codes : List ℕ} {placed : List Float} {counts rounds : List ℕ} {free : List ℤ} {work : List ℕ} {sums : List Float} {k : ℕ} {a : balance.BreakLent}
+pub main_ready : {c : Container} {n : ℕ} {t : List Item} {x : List Float} {codes : List ℕ} {placed : List Float} {counts rounds : List ℕ} {free : List ℤ} {work : List ℕ} {sums : List Float} {k : ℕ} {a : balance.BreakLent}
     → MainAsked c n t x codes placed counts rounds free work sums → LinesBroken c n t (balance.break_lent counts work sums) k a → main.MainStageReady c n t x codes (take k a.counts) free rounds
 main_ready {c} {n} {t} m w =
     let d = divides_of c n t w in
@@ -72,7 +72,7 @@ main_ready {c} {n} {t} m w =
 
 -- ---- all of it
 
-module _ {c : Container} {n : ℕ} {t x : List Float} {codes : List ℕ} {placed₀ : List Float} {counts₀ rounds₀ : List ℕ} {free₀ : List ℤ} {work₀ : List ℕ} {sums₀ : List Float} {k sum : ℕ} {p : List Float} {counts rounds : List ℕ} {free : List ℤ} {work : List ℕ} {sums : List Float}
+module _ {c : Container} {n : ℕ} {t : List Item} {x : List Float} {codes : List ℕ} {placed₀ : List Float} {counts₀ rounds₀ : List ℕ} {free₀ : List ℤ} {work₀ : List ℕ} {sums₀ : List Float} {k sum : ℕ} {p : List Float} {counts rounds : List ℕ} {free : List ℤ} {work : List ℕ} {sums : List Float}
     (m : MainLaid c n t x codes placed₀ counts₀ rounds₀ free₀ work₀ sums₀ k sum p counts rounds free work sums) where
   -- what the cross axis asks
   pub cross_asked : {lines₀ : List Float} → MainAsked c n t x codes placed₀ counts₀ rounds₀ free₀ work₀ sums₀ → 2 * n ≤ length lines₀ → CrossAsked n x codes (take k counts) lines₀ p

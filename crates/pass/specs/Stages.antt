@@ -2,6 +2,7 @@
 use Rattle.std.specs.Prelude.{List, ℕ, ◌*◌, ◌≤◌, length, take, ℤ, Float}
 use Rattle.grid.specs.Grid.{cleaned}
 use Rattle.grid.specs.Values.{Length}
+use Rattle.flex.specs.declared.Item.{Item}
 use Rattle.flex.specs.Flex.{outer_sum}
 use Rattle.flex_table.specs.Table.{items_in, Tabled, Held}
 use Rattle.balance.specs.Calls as balance
@@ -29,8 +30,8 @@ pub record CrossLaid (c : Container) (n : ℕ) (x : List Float) (codes counts : 
 -- ---- the lines, and the main axis of each
 
 -- what checks 1 to 6 show, once the items are read into the table
-pub record MainAsked (c : Container) (n : ℕ) (t x : List Float) (codes : List ℕ) (placed : List Float)
-    (counts rounds : List ℕ) (free : List ℤ) (work : List ℕ) (sums : List Float) : Type 0 where
+pub record MainAsked (c : Container) (n : ℕ) (t : List Item) (x : List Float) (codes : List ℕ)
+    (placed : List Float) (counts rounds : List ℕ) (free : List ℤ) (work : List ℕ) (sums : List Float) : Type 0 where
   pub listed : ItemLists n x codes
   pub held : Held (main_lists n x codes) t
   pub tabled : Tabled t n
@@ -43,14 +44,15 @@ pub record MainAsked (c : Container) (n : ℕ) (t x : List Float) (codes : List 
   pub rounds_room : n ≤ length rounds
   pub free_room : n ≤ length free
 
-pub record MainLaid (c : Container) (n : ℕ) (t x : List Float) (codes : List ℕ) (placed₀ : List Float)
-    (counts₀ rounds₀ : List ℕ) (free₀ : List ℤ) (work₀ : List ℕ) (sums₀ : List Float) (lines sum : ℕ)
+pub record MainLaid (c : Container) (n : ℕ) (t : List Item) (x : List Float) (codes : List ℕ)
+    (placed₀ : List Float) (counts₀ rounds₀ : List ℕ) (free₀ : List ℤ) (work₀ : List ℕ) (sums₀ : List Float) (lines sum : ℕ)
     (placed : List Float) (counts rounds : List ℕ) (free : List ℤ) (work : List ℕ) (sums : List Float) : Type 0 where
   pub broken : LinesBroken c n t (balance.break_lent counts₀ work₀ sums₀) lines (balance.break_lent counts work sums)
   pub main : MainStage c n x codes (take lines counts) placed₀ free₀ rounds₀ sum placed free rounds
 
 -- ---- an accepted run
 
-pub record PassAccepted (c : Container) (n : ℕ) (t x : List Float) (codes : List ℕ) (b : PassLent) : Type 0 where
+pub record PassAccepted (c : Container) (n : ℕ) (t : List Item) (x : List Float) (codes : List ℕ)
+    (b : PassLent) : Type 0 where
   pub main : MainAsked c n t x codes b.placed b.counts b.rounds b.free b.work b.sums
   pub lines_room : 2 * n ≤ length b.lines

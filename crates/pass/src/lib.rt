@@ -9,29 +9,28 @@ ghost use Rattle.pass_checks.specs.Checks.{pass_sum};
 ghost use Rattle.pass.specs.Pass.{PassAnswered, PassCall};
 ghost use Rattle.pass.specs.Checked.{PassChecked};
 
-use checks::Verdict;
+use checks::Refusal;
+use flex::Item;
 use pass_break::break_items;
-use pass_checks::check_pass;
-use pass_container::Container;
+use pass_checks::{LentLengths, check_pass};
+use pass_container::{Container, Items};
 use pass_cross::{items_across, lines_along};
 use pass_main::place_main_axis;
 
 // The cross axis: the lines along it, and then the items across each line. Answers the container's inner cross size.
-fn lay_cross<'a>(
+fn lay_cross(
     c: Container,
-    n: usize,
-    numbers: &'a [f32],
-    codes: &'a [u32],
-    counts: &'a [u32],
+    items: Items,
+    counts: &[u32],
     lines: &mut [f32],
     placed: &mut [f32],
 ) -> f32
-    requires { CrossAsked n numbers.now codes.now counts.now lines.old placed.old }
-    ensures { CrossLaid c n numbers.now codes.now counts.now result
+    requires { CrossAsked items.count items.numbers.now items.codes.now counts.now lines.old placed.old }
+    ensures { CrossLaid c items.entry.count items.entry.numbers.now items.entry.codes.now counts.now result
         lines.old placed.old lines.new placed.new }
 {
-    let inner = lines_along(c, n, numbers, codes, counts, lines);
-    items_across(c, n, numbers, codes, counts, &lines[..n], placed);
+    let inner = lines_along(c, items, counts, lines);
+    items_across(c, items, counts, &lines[..items.count], placed);
     inner
 }
 
@@ -43,12 +42,10 @@ pub struct Lines {
 }
 
 // The lines, and the main axis of each.
-fn lay_main<'a>(
+fn lay_main(
     c: Container,
-    n: usize,
-    table: &'a [f32],
-    numbers: &'a [f32],
-    codes: &'a [u32],
+    items: Items,
+    table: &[Item],
     placed: &mut [f32],
     counts: &mut [u32],
     rounds: &mut [u32],
@@ -56,29 +53,16 @@ fn lay_main<'a>(
     work: &mut [u32],
     sums: &mut [f64],
 ) -> Lines
-    requires { MainAsked c n table.now numbers.now codes.now placed.old counts.old rounds.old free.old
-        work.old sums.old }
-    ensures { MainLaid c n table.now numbers.now codes.now placed.old
+    requires { MainAsked c items.count table.now items.numbers.now items.codes.now placed.old counts.old rounds.old
+        free.old work.old sums.old }
+    ensures { MainLaid c items.entry.count table.now items.entry.numbers.now items.entry.codes.now placed.old
         counts.old rounds.old free.old work.old sums.old
         result.count result.rounds placed.new counts.new rounds.new free.new
         work.new sums.new }
 {
-    let k = break_items(c, n, table, counts, work, sums);
-    let sum = place_main_axis(
-        c,
-        n,
-        table,
-        numbers,
-        codes,
-        &counts[..k],
-        placed,
-        free,
-        rounds,
-    );
-    Lines {
-        count: k,
-        rounds: sum,
-    }
+    let count = break_items(c, items.count, table, counts, work, sums);
+    let rounds = place_main_axis(c, items, table, &counts[..count], placed, free, rounds);
+    Lines { count, rounds }
 }
 
 // What an accepted run answers: the lines, the sum of their rounds, and the container's inner cross size.
@@ -90,12 +74,10 @@ pub struct Layout {
 }
 
 // All of an accepted run. No entry point.
-pub fn lay_out<'a>(
+pub fn lay_out(
     c: Container,
-    n: usize,
-    table: &'a [f32],
-    numbers: &'a [f32],
-    codes: &'a [u32],
+    items: Items,
+    table: &[Item],
     placed: &mut [f32],
     lines: &mut [f32],
     counts: &mut [u32],
@@ -104,43 +86,25 @@ pub fn lay_out<'a>(
     work: &mut [u32],
     sums: &mut [f64],
 ) -> Layout
-    requires { PassAccepted c n table.now numbers.now codes.now
+    requires { PassAccepted c items.count table.now items.numbers.now items.codes.now
         (pass_lent placed.old lines.old counts.old rounds.old free.old work.old sums.old) }
-    ensures { Laid c n numbers.now codes.now
-        (pass_lent placed.old lines.old counts.old rounds.old
-        free.old work.old sums.old) result.lines result.rounds result.inner_cross
-        (pass_lent placed.new lines.new counts.new rounds.new free.new
-        work.new sums.new) }
+    ensures { Laid c items.entry.count items.entry.numbers.now items.entry.codes.now
+        (pass_lent placed.old lines.old counts.old rounds.old free.old work.old sums.old) result.lines result.rounds
+        result.inner_cross (pass_lent placed.new lines.new counts.new rounds.new free.new work.new sums.new) }
 {
-    let m = lay_main(
-        c, n, table, numbers, codes, placed, counts, rounds, free, work, sums,
-    );
-    let k = m.count;
-    let inner = lay_cross(c, n, numbers, codes, &counts[..k], lines, placed);
+    let main = lay_main(c, items, table, placed, counts, rounds, free, work, sums);
+    let inner_cross = lay_cross(c, items, &counts[..main.count], lines, placed);
     Layout {
-        lines: k as u32,
-        rounds: m.rounds,
-        inner_cross: inner,
+        lines: main.count as u32,
+        rounds: main.rounds,
+        inner_cross,
     }
 }
 
-// What the pass answers: the lines, the sum of their rounds, and the container's inner cross size.
-#[derive(Clone, Copy)]
-pub enum PassAnswer {
-    Done {
-        lines: u32,
-        rounds: u32,
-        inner_cross: f32,
-    },
-    Refused(checks::Refusal),
-}
-
 // Check 6, on the items as they are read, and then all stages. Checks 1 to 5 have passed.
-fn pass_checked<'a>(
+fn pass_checked(
     c: Container,
-    n: usize,
-    numbers: &'a [f32],
-    codes: &'a [u32],
+    items: Items,
     placed: &mut [f32],
     lines: &mut [f32],
     counts: &mut [u32],
@@ -148,32 +112,21 @@ fn pass_checked<'a>(
     free: &mut [i32],
     work: &mut [u32],
     sums: &mut [f64],
-) -> PassAnswer
-    requires { PassChecked c n numbers.now codes.now (pass_lent placed.old lines.old counts.old rounds.old
-        free.old work.old sums.old) }
-    ensures { PassAnswered (summed (pass_sum c n numbers.now codes.now)) c n
-        numbers.now codes.now (pass_lent placed.old lines.old
-        counts.old rounds.old free.old work.old sums.old) result
-        (pass_lent placed.new lines.new counts.new rounds.new free.new
-        work.new sums.new) }
+) -> Result<Layout, Refusal>
+    requires { PassChecked c items.count items.numbers.now items.codes.now
+        (pass_lent placed.old lines.old counts.old rounds.old free.old work.old sums.old) }
+    ensures { PassAnswered (summed (pass_sum c items.entry.count items.entry.numbers.now items.entry.codes.now)) c
+        items.entry.count items.entry.numbers.now items.entry.codes.now
+        (pass_lent placed.old lines.old counts.old rounds.old free.old work.old sums.old) result
+        (pass_lent placed.new lines.new counts.new rounds.new free.new work.new sums.new) }
 {
-    let mut table = [0.0; 8192];
-    pass_main::reading::read_main(n, numbers, codes, &mut table);
+    let mut table = [Item::default(); 1024];
+    pass_main::reading::read_main(items, &mut table);
     let gap = grid::clean(c.gap_main);
-    let v = checks::check_sum(flex_table::sum::outer_sum(&table, n, gap));
-    match v {
-        Verdict::Refused(why) => PassAnswer::Refused(why),
-        Verdict::Passed => {
-            let l = lay_out(
-                c, n, &table, numbers, codes, placed, lines, counts, rounds, free, work, sums,
-            );
-            PassAnswer::Done {
-                lines: l.lines,
-                rounds: l.rounds,
-                inner_cross: l.inner_cross,
-            }
-        }
-    }
+    checks::check_sum(flex_table::sum::outer_sum(&table[..items.count], gap))?;
+    Ok(lay_out(
+        c, items, &table, placed, lines, counts, rounds, free, work, sums,
+    ))
 }
 
 // The whole pass of any bits. The numbers are fourteen lists of n cells one after another: base, minimum, maximum,
@@ -181,11 +134,11 @@ fn pass_checked<'a>(
 // border, start and end margin (cross axis). The codes are eight: has a maximum, auto start, auto end (main axis); has
 // a maximum, auto start, auto end, `align-self`, auto size (cross axis). `placed` takes eight lists of n: main size,
 // offset, start and end margin, and the same on the cross axis; `lines` two: the lines' cross sizes and offsets.
-pub fn pass<'a>(
+pub fn pass(
     c: Container,
     n: usize,
-    numbers: &'a [f32],
-    codes: &'a [u32],
+    numbers: &[f32],
+    codes: &[u32],
     placed: &mut [f32],
     lines: &mut [f32],
     counts: &mut [u32],
@@ -193,30 +146,25 @@ pub fn pass<'a>(
     free: &mut [i32],
     work: &mut [u32],
     sums: &mut [f64],
-) -> PassAnswer
+) -> Result<Layout, Refusal>
     ensures { PassCall c n numbers.now codes.now
-        (pass_lent placed.old lines.old counts.old rounds.old
-        free.old work.old sums.old) result
-        (pass_lent placed.new lines.new counts.new rounds.new free.new
-        work.new sums.new) }
+        (pass_lent placed.old lines.old counts.old rounds.old free.old work.old sums.old) result
+        (pass_lent placed.new lines.new counts.new rounds.new free.new work.new sums.new) }
 {
-    let v = check_pass(
-        c,
-        n,
+    let lent = LentLengths {
+        placed: placed.len(),
+        lines: lines.len(),
+        counts: counts.len(),
+        rounds: rounds.len(),
+        free: free.len(),
+        work: work.len(),
+        sums: sums.len(),
+    };
+    check_pass(c, n, numbers, codes, lent)?;
+    let items = Items {
+        count: n,
         numbers,
         codes,
-        placed.len(),
-        lines.len(),
-        counts.len(),
-        rounds.len(),
-        free.len(),
-        work.len(),
-        sums.len(),
-    );
-    match v {
-        Verdict::Refused(why) => PassAnswer::Refused(why),
-        Verdict::Passed => pass_checked(
-            c, n, numbers, codes, placed, lines, counts, rounds, free, work, sums,
-        ),
-    }
+    };
+    pass_checked(c, items, placed, lines, counts, rounds, free, work, sums)
 }

@@ -11,10 +11,10 @@ use Rattle.pass.proofs.LaidLaws.{first-column, first_long}
 use Rattle.pass.proofs.lay_cross.Goals as goal
 
 pub slice_bounds-items_across-end-2 : goal.slice_bounds-items_across-end-2
-slice_bounds-items_across-end-2 c = sym (first_long c.args.n (2 * c.args.n) c.lines_along-inner.new.lines (omega arith) (le_trans {m = length c.args.lines.now} c.requires.lines_room (le_of_eq (sym c.lines_along-inner.auto.lines))))
+slice_bounds-items_across-end-2 c = sym (first_long c.args.items.count (2 * c.args.items.count) c.lines_along-inner.new.lines (omega arith) (le_trans {m = length c.args.lines.now} c.requires.lines_room (le_of_eq (sym c.lines_along-inner.auto.lines))))
 
 pub items_across-requires : goal.items_across-requires
-items_across-requires c = (c.requires.ready, le_of_eq (sym (first_long c.args.n (2 * c.args.n) c.lines_along-inner.new.lines (omega arith) (le_trans {m = length c.args.lines.now} c.requires.lines_room (le_of_eq (sym c.lines_along-inner.auto.lines))))), c.requires.placed_room)
+items_across-requires c = (c.requires.ready, le_of_eq (sym (first_long c.args.items.count (2 * c.args.items.count) c.lines_along-inner.new.lines (omega arith) (le_trans {m = length c.args.lines.now} c.requires.lines_room (le_of_eq (sym c.lines_along-inner.auto.lines))))), c.requires.placed_room)
 
 pub returns : goal.returns
 returns c = let a = c.args in
@@ -22,5 +22,5 @@ returns c = let a = c.args in
     let g = c.items_across in
     record {
       along = f.ensures;
-      across = subst (λ (y : List Float). ItemsAcross a.c a.n a.numbers.now a.codes.now a.counts.now y a.placed.now g.new.placed) (first-column a.n f.new.lines) g.ensures;
+      across = subst (λ (y : List Float). ItemsAcross a.c a.items.count a.items.numbers.now a.items.codes.now a.counts.now y a.placed.now g.new.placed) (first-column a.items.count f.new.lines) g.ensures;
     }
