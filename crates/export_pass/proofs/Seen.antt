@@ -14,13 +14,11 @@ use Rattle.pass_container.specs.declared.Container.{Container}
 use Rattle.pass_container.specs.Container.{break_mode}
 use Rattle.checks.specs.Domain.{or_else, then, checked, summed}
 use Rattle.checks.specs.declared.Refusal.TheVariants.{TooManyItems, TooLittleRoom}
-use Rattle.checks.specs.declared.Verdict.TheVariants as verdict
+use Rattle.std.specs.declared.result.Result.TheVariants.{Ok, Err}
 use Rattle.checks.proofs.Verdicts.{not_both}
 use Rattle.pass_checks.specs.Checks.{pass_room, pass_verdict, pass_input, pass_sum}
-use Rattle.pass.specs.declared.PassAnswer.{PassAnswer}
-use Rattle.pass.specs.declared.PassAnswer.TheVariants.{Done, Refused}
 use Rattle.pass.specs.Laid.{PassLent}
-use Rattle.pass.specs.Pass.{PassCall, lent_verdict}
+use Rattle.pass.specs.Pass.{PassAnswer, PassCall, lent_verdict}
 use Rattle.pass_items.specs.declared.Item.{Item}
 use Rattle.pass_items.specs.Items.{numbers_of, codes_of}
 use Rattle.pass_items.proofs.Laid.{taken_numbers, taken_codes}
@@ -28,18 +26,18 @@ use Rattle.export_pass.specs.declared.CPassed.{CPassed}
 use Rattle.export_pass.specs.Passed.{PassedFromC}
 
 -- more than 1,024 items are refused whatever the lists hold
-many : (c : Container) (n : ℕ) (x : List Float) (codes : List ℕ) (room : Bool) → 1024 < n → pass_verdict c n x codes room ≡ verdict.Refused TooManyItems
+many : (c : Container) (n : ℕ) (x : List Float) (codes : List ℕ) (room : Bool) → 1024 < n → pass_verdict c n x codes room ≡ Err TooManyItems
 unfolding pass_verdict
-many c n x codes room h = ap (λ (t : Bool). then (or_else t (verdict.Refused TooManyItems) (or_else (not room) (verdict.Refused TooLittleRoom) verdict.Passed)) (checked (pass_input c n x codes) (summed (pass_sum c n x codes)))) (lt-ltb 1024 n h)
+many c n x codes room h = ap (λ (t : Bool). then (or_else t (Err TooManyItems) (or_else (not room) (Err TooLittleRoom) (Ok tt))) (checked (pass_input c n x codes) (summed (pass_sum c n x codes)))) (lt-ltb 1024 n h)
 
-too_many : (c : Container) (n : ℕ) (x : List Float) (codes : List ℕ) (b : PassLent) → 1024 < n → lent_verdict c n x codes b ≡ verdict.Refused TooManyItems
+too_many : (c : Container) (n : ℕ) (x : List Float) (codes : List ℕ) (b : PassLent) → 1024 < n → lent_verdict c n x codes b ≡ Err TooManyItems
 too_many c n x codes b h =
     many c n x codes (pass_room n (break_mode c) (length x) (length codes) (length b.placed) (length b.lines) (length b.counts) (length b.rounds) (length b.free) (length b.work) (length b.sums)) h
 
 -- so what is said of so many is said of any other so many
 as_many : (c : Container) (n n' : ℕ) (x x' : List Float) (codes codes' : List ℕ) (before after : PassLent) (r : PassAnswer) → 1024 < n → 1024 < n' → PassCall c n x codes before r after → PassCall c n' x' codes' before r after
-as_many c n n' x x' codes codes' before after (Refused why) h h' p = (too_many c n' x' codes' before h' ∙ sym (too_many c n x codes before h) ∙ p.0, p.1)
-as_many c n n' x x' codes codes' before after (Done lines sum inner) h h' p = absurd (not_both p.0 (too_many c n x codes before h))
+as_many c n n' x x' codes codes' before after (Err why) h h' p = (too_many c n' x' codes' before h' ∙ sym (too_many c n x codes before h) ∙ p.0, p.1)
+as_many c n n' x x' codes codes' before after (Ok l) h h' p = absurd (not_both p.0 (too_many c n x codes before h))
 
 module _ (c : Container) (xs : List Item) (before : PassLent) (r : CPassed) (after : PassLent) where
   abbrev m : ℕ

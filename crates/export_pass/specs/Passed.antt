@@ -4,10 +4,9 @@ use Rattle.std.specs.Float.{binary32}
 use Rattle.std.specs.Float.Ieee.{of_bits}
 use Rattle.checks.specs.Domain.{refusal_of}
 use Rattle.pass_container.specs.declared.Container.{Container}
-use Rattle.pass.specs.declared.PassAnswer.{PassAnswer}
-use Rattle.pass.specs.declared.PassAnswer.TheVariants.{Done, Refused}
+use Rattle.std.specs.declared.result.Result.TheVariants.{Ok, Err}
 use Rattle.pass.specs.Laid.{PassLent}
-use Rattle.pass.specs.Pass.{PassCall}
+use Rattle.pass.specs.Pass.{PassAnswer, PassCall}
 use Rattle.export_answer.specs.Crossing.{crossed}
 use Rattle.export_answer.specs.declared.CAnswer.{CAnswer}
 use Rattle.export_pass.specs.declared.CPassed.{CPassed}
@@ -24,15 +23,15 @@ c_refused r = record {
 }
 
 abbrev pub c_passed : PassAnswer → CPassed
-c_passed (Done lines rounds cross) = record {
+c_passed (Ok l) = record {
   number = 0;
   at = 0;
   place = 0;
-  lines = lines;
-  rounds = rounds;
-  inner_cross = cross;
+  lines = l.lines;
+  rounds = l.rounds;
+  inner_cross = l.inner_cross;
 }
-c_passed (Refused why) = c_refused (crossed (refusal_of why))
+c_passed (Err why) = c_refused (crossed (refusal_of why))
 
 -- THE CALL: the pass inside it, on so many items, and its answer as it crosses
 pub record PassedFromC (c : Container) (n : ℕ) (numbers : List Float) (codes : List ℕ) (before : PassLent) (r : CPassed)

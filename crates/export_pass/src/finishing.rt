@@ -1,52 +1,48 @@
 // The pass over the unpacked lists, and its answer as it crosses to C. No entry points.
 ghost use Rattle.std.specs.Prelude.{◌≡◌, ◌*◌, ◌≤◌, length, take};
 ghost use Rattle.pass.specs.Laid.{pass_lent};
-ghost use Rattle.export_pass.specs.Passed.{c_refused, c_passed, PassedFromC};
+ghost use Rattle.export_pass.specs.Passed.{c_passed, PassedFromC};
 
 use crate::CPassed;
+use checks::Refusal;
 use export_answer::CAnswer;
-use pass::PassAnswer;
+use pass::Layout;
 use pass_container::Container;
 
-fn refused_to_c(r: CAnswer) -> CPassed
-    ensures { result ≡ c_refused r }
-{
-    CPassed {
-        number: r.number,
-        at: r.at,
-        place: r.place,
-        lines: 0,
-        rounds: 0,
-        inner_cross: 0.0,
-    }
-}
+impl From<Result<Layout, Refusal>> for CPassed {
+    ghost from_gives = { λ told passed. passed ≡ c_passed told };
 
-fn passed_to_c(a: PassAnswer) -> CPassed
-    ensures { result ≡ c_passed a }
-{
-    match a {
-        PassAnswer::Done {
-            lines,
-            rounds,
-            inner_cross,
-        } => CPassed {
-            number: 0,
-            at: 0,
-            place: 0,
-            lines,
-            rounds,
-            inner_cross,
-        },
-        PassAnswer::Refused(why) => refused_to_c(export_answer::refusal_to_c(why)),
+    fn from(told: Result<Layout, Refusal>) -> CPassed {
+        match told {
+            Ok(layout) => CPassed {
+                number: 0,
+                at: 0,
+                place: 0,
+                lines: layout.lines,
+                rounds: layout.rounds,
+                inner_cross: layout.inner_cross,
+            },
+            Err(why) => {
+                let refused = CAnswer::from(why);
+                CPassed {
+                    number: refused.number,
+                    at: refused.at,
+                    place: refused.place,
+                    lines: 0,
+                    rounds: 0,
+                    inner_cross: 0.0,
+                }
+            }
+        }
     }
 }
 
 // The pass over the first m items of the unpacked lists. No entry point.
-pub fn finish<'a>(
+pub fn finish(
     c: Container,
     m: usize,
-    nums: &'a [f32],
-    codes: &'a [u32],
+    nums: &[f32],
+    codes: &[u32],
     placed: &mut [f32],
     lines: &mut [f32],
     counts: &mut [u32],
@@ -62,13 +58,11 @@ pub fn finish<'a>(
         result (pass_lent placed.new lines.new counts.new rounds.new
         free.new work.new sums.new) }
 {
-    let a = 14 * m;
-    let e = 8 * m;
-    let answer = pass::pass(
+    let told = pass::pass(
         c,
         m,
-        &nums[..a],
-        &codes[..e],
+        &nums[..14 * m],
+        &codes[..8 * m],
         placed,
         lines,
         counts,
@@ -77,5 +71,5 @@ pub fn finish<'a>(
         work,
         sums,
     );
-    passed_to_c(answer)
+    told.into()
 }

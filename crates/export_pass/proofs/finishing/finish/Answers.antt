@@ -11,4 +11,4 @@ pub slice_bounds-pass-end-2 : goal.slice_bounds-pass-end-2
 slice_bounds-pass-end-2 c = sym (length-take-le (8 * c.args.m) c.args.codes.now c.requires.1)
 
 pub returns : goal.returns
-returns c = let called = c.pass-answer in record { inside = called.result; told = c.passed_to_c.ensures; passed = called.ensures }
+returns c = let called = c.pass-told in record { inside = called.result; told = c.into.ensures; passed = called.ensures }
