@@ -4,9 +4,8 @@ use Rattle.std.specs.Prelude.{◌≡◌, List, [], ◌∷◌, ◌++◌, ℕ, zer
 use Rattle.pass_container.specs.declared.Container.{Container}
 use Rattle.pass_container.specs.Stages.{ItemLists}
 use Rattle.pass.specs.Alone.{SameItems, SameLine}
-use Rattle.pass.specs.Pass.{PassCall}
+use Rattle.pass.specs.Pass.{PassAnswer, PassCall}
 use Rattle.pass.specs.Laid.{PassLent, Laid}
-use Rattle.pass.specs.declared.PassAnswer.{PassAnswer}
 
 -- k lists alike, one after another
 abbrev pub repeated : {A : Type 0} → ℕ → List A → List A
