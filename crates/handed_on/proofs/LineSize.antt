@@ -12,18 +12,16 @@ use lib.ListN.{get_or}
 use lib.Ieee.{Float, nan, lt, le, eq, of_bits}
 use Rattle.grid.specs.Grid.{on_grid, within, cleaned}
 use Rattle.grid.specs.Floats.{◌⊕◌, nought}
-use Rattle.keywords.specs.declared.Bound.{Bound}
-use Rattle.keywords.specs.declared.Bound.TheVariants.{Absent, Given}
-use Rattle.keywords.specs.Space.{bound_of, raised_to, lowered_to, read_bound}
+use Rattle.std.specs.declared.option.Option.TheVariants.{None, Some}
+use Rattle.std.specs.declared.result.Result.TheVariants.{Ok, Err}
+use Rattle.keywords.specs.Space.{Bound, bound_of, raised_to, lowered_to, read_bound}
 use Rattle.keywords.specs.Wrapping.{is_single_line}
-use Rattle.checks.specs.Domain.{float, code, checked}
+use Rattle.checks.specs.Domain.{Verdict, float, code, checked}
 use Rattle.checks.specs.Lists.{beside_at}
 use Rattle.checks.specs.Optional.{optional}
 use Rattle.checks.specs.Shapes.{shape_of}
 use Rattle.checks.specs.Marks.{Fine, AllFine, SoundInput}
 use Rattle.checks.specs.declared.Kind.TheVariants as kind
-use Rattle.checks.specs.declared.Verdict.{Verdict}
-use Rattle.checks.specs.declared.Verdict.TheVariants.{Passed, Refused}
 use Rattle.checks.proofs.Checks.{accepted, then_passed, fine-append, fine_code}
 use Rattle.place_size.specs.declared.container.Cross.{Cross}
 use Rattle.place_size.specs.declared.cross_size.CrossItem.{CrossItem}
@@ -31,9 +29,7 @@ use Rattle.place_size.specs.Container.{read_cross, bounded, bounded_by, inner_si
 use Rattle.place_size.specs.CrossSize.{cross_clamp, or_nought, margins, outer_size, CrossLists, count, cross_item_at, largest, line_cross_size, cross_line_size}
 use Rattle.place_checks.specs.declared.numbers.CrossNumbers.{CrossNumbers}
 use Rattle.place_checks.specs.Numbers.{cross_of, coded_bound, item_lengths}
-use Rattle.place_size_call.specs.declared.SizeAnswer.{SizeAnswer}
-use Rattle.place_size_call.specs.declared.SizeAnswer.TheVariants as answer
-use Rattle.place_size_call.specs.SizeCall.{size_input, size_verdict, size_into, size_call}
+use Rattle.place_size_call.specs.SizeCall.{SizeAnswer, size_input, size_verdict, size_into, size_call}
 use Rattle.flex_reach.specs.Reach.{IsSize, IsMargin}
 use Rattle.flex_reach.proofs.Units.{px, Num, far, one_side, lt_num}
 use Rattle.flex_reach.proofs.Plus.{sum_num, sum-under}
@@ -134,8 +130,8 @@ largest_upto f (suc n) h = raised_upto (largest_upto f n (λ i l. h i (omega ari
 -- ---- the container
 
 abbrev BoundIs : Bound → Type 0
-BoundIs Absent = Unit {0}
-BoundIs (Given x) = IsSize x
+BoundIs None = Unit {0}
+BoundIs (Some x) = IsSize x
 
 record IsCrossAxis (c : Cross) : Type 0 where
   inner : BoundIs c.inner
@@ -150,26 +146,26 @@ unfolding bounded
 bounded_upto {c} {x} k u = above c.minimum k.minimum (below c.maximum k.maximum)
   where
     below : (b : Bound) → BoundIs b → Upto (524290 * px) (lowered_to b x)
-    below Absent s = u
-    below (Given y) s = pick (Upto (524290 * px)) (lt y x) u (size_more s)
+    below None s = u
+    below (Some y) s = pick (Upto (524290 * px)) (lt y x) u (size_more s)
 
     above : (b : Bound) → BoundIs b → {z : Float} → Upto (524290 * px) z → Upto (524290 * px) (raised_to b z)
-    above Absent s v = v
-    above (Given y) s {z} v = pick (Upto (524290 * px)) (lt z y) v (size_more s)
+    above None s v = v
+    above (Some y) s {z} v = pick (Upto (524290 * px)) (lt z y) v (size_more s)
 
 line_upto : {c : Cross} {x : Float} → IsCrossAxis c → Upto (524290 * px) x → Upto (524290 * px) (cond (is_single_line c.wrap) (or_bounded c (inner_size c) x) x)
 line_upto {c} {x} k u = pick (Upto (524290 * px)) (is_single_line c.wrap) u (inner c.inner k.inner)
   where
     inner : (b : Bound) → BoundIs b → Upto (524290 * px) (or_bounded c (bounded_by c b) x)
-    inner Absent s = bounded_upto k u
-    inner (Given y) s = bounded_upto k (size_more s)
+    inner None s = bounded_upto k u
+    inner (Some y) s = bounded_upto k (size_more s)
 
 -- ---- what the checks show
 
 bound_read : (given : ℕ) (x : Float) → AllFine (coded_bound given x) → BoundIs (read_bound (bound_of given x))
 bound_read given x h = go (eqb given 1) h.1
   where
-    go : (b : Bool) → AllFine (optional b (float kind.Size x)) → BoundIs (read_bound (cond b (Given x) Absent))
+    go : (b : Bool) → AllFine (optional b (float kind.Size x)) → BoundIs (read_bound (cond b (Some x) None))
     go true f = size_read f.0
     go false f = tt
 
@@ -214,25 +210,25 @@ module _ (c : CrossNumbers) (ls : CrossLists) where
       let d = fine-append (coded_bound c.has_maximum c.maximum) _ b.1 in
       record { inner = bound_read c.has_inner c.inner a.0; minimum = bound_read c.has_minimum c.minimum b.0; maximum = bound_read c.has_maximum c.maximum d.0 }
 
-  size_taken : size_verdict c ls ≡ Passed → Fine (float kind.Worked (cross_line_size (cross_of c) ls))
+  size_taken : size_verdict c ls ≡ Ok tt → Fine (float kind.Worked (cross_line_size (cross_of c) ls))
   unfolding size_verdict line_cross_size
   size_taken e =
-      let p = then_passed (shape_of (item_lengths ls) [] (count ls)) (checked (size_input c ls) Passed) e in
-      let s = (accepted (size_input c ls) Passed p.1).0 in
+      let p = then_passed (shape_of (item_lengths ls) [] (count ls)) (checked (size_input c ls) (Ok tt)) e in
+      let s = (accepted (size_input c ls) (Ok tt) p.1).0 in
       handed_fine (handed_on (more (mul-le-mul_right px (lit≤ tt)) (line_upto (axis_is s) (largest_upto (λ i. outer_size (cross_item_at ls i)) (count ls) (λ i h. outer_near (item_is s i h))))))
 
   -- the size that an accepted call answers is a number that a later step takes
-  pub size_reach : (x : Float) → size_call c ls ≡ answer.Sized x → Fine (float kind.Worked x)
+  pub size_reach : (x : Float) → size_call c ls ≡ Ok x → Fine (float kind.Worked x)
   size_reach x = go (size_verdict c ls) refl
     where
       sized : SizeAnswer → Type 0
-      sized (answer.Sized y) = Fine (float kind.Worked y)
-      sized (answer.Refused why) = Unit {0}
+      sized (Ok y) = Fine (float kind.Worked y)
+      sized (Err why) = Unit {0}
 
       is_sized : SizeAnswer → Type 0
-      is_sized (answer.Sized y) = Unit {0}
-      is_sized (answer.Refused why) = ⊥
+      is_sized (Ok y) = Unit {0}
+      is_sized (Err why) = ⊥
 
-      go : (v : Verdict) → size_verdict c ls ≡ v → size_into v c ls ≡ answer.Sized x → Fine (float kind.Worked x)
-      go Passed e h = subst sized h (size_taken e)
-      go (Refused why) e h = absurd (subst is_sized (sym h) tt)
+      go : (v : Verdict) → size_verdict c ls ≡ v → size_into v c ls ≡ Ok x → Fine (float kind.Worked x)
+      go (Ok tt) e h = subst sized h (size_taken e)
+      go (Err why) e h = absurd (subst is_sized (sym h) tt)
