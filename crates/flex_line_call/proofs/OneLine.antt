@@ -1,22 +1,23 @@
 -- The call for one line: what its checks show, and its verdict. By the laws of the checks. Assumes nothing.
 use mathlib.Core.Path.{◌≡◌, refl, sym, ap, ◌∙◌, subst}
 use mathlib.Core.List.{List}
-use Prim.Native.Nat.{ℕ}
+use Prim.Native.Nat.{ℕ, ◌≤◌}
 use lib.ListN.{length}
 use lib.Ieee.{Float}
 use Rattle.grid.specs.Grid.{cleaned}
 use Rattle.checks.specs.Domain.{Verdict, summed, then}
-use Rattle.checks.specs.Marks.{least_mark, judged}
+use Rattle.checks.specs.Marks.{least_mark, judged, SoundInput}
 use Rattle.checks.specs.declared.Refusal.{Refusal}
 use Rattle.std.specs.declared.result.Result.TheVariants.{Ok, Err}
 use Rattle.checks.proofs.Checks.{judged-checked, accepted, then_passed}
 use Rattle.flex.specs.declared.Item.{Item}
 use Rattle.flex.specs.Flex.{outer_sum}
-use Rattle.flex.specs.Items.{Lists, items_of}
+use Rattle.flex.specs.Items.{Lists, count, items_of}
+use Rattle.flex.specs.Accepted.{Even}
 use Rattle.flex_checks.specs.Input.{flex_shape, input_of}
 use Rattle.flex_checks.proofs.Accept.{even_of, refused_then, passed_then}
 use Rattle.flex_line_call.specs.Call.{FlexAnswer, line_verdict, LineAnswered, FlexedLine}
-use Rattle.flex_line_call.specs.Parts.{LineChecked, LineSummed}
+use Rattle.flex_line_call.specs.Parts.{LineSummed}
 
 -- ---- the verdict, from checks 1 to 5 and check 6
 
@@ -25,15 +26,11 @@ module _ (inner gap : Float) (ls : Lists) where
   marks = judged (least_mark (input_of inner gap ls))
 
   -- where checks 1 to 5 pass
-  pub checked_of : (targets : List Float) → then (flex_shape ls (length targets)) marks ≡ Ok tt → LineChecked inner gap ls targets
-  checked_of targets h =
-      let p = then_passed (flex_shape ls (length targets)) marks h in
-      let e = even_of ls (length targets) p.0 in
-      record {
-        even = e.0;
-        room = e.1;
-        sound = (accepted (input_of inner gap ls) (Ok tt) (sym (judged-checked (input_of inner gap ls) e.0.few (Ok tt)) ∙ ap (λ (v : Verdict). then v (Ok tt)) p.1)).0;
-      }
+  pub shown : (room : ℕ) → then (flex_shape ls room) marks ≡ Ok tt → Even ls × (count ls ≤ room) × SoundInput (input_of inner gap ls)
+  shown room h =
+      let p = then_passed (flex_shape ls room) marks h in
+      let e = even_of ls room p.0 in
+      (e.0, e.1, (accepted (input_of inner gap ls) (Ok tt) (sym (judged-checked (input_of inner gap ls) e.0.few (Ok tt)) ∙ ap (λ (v : Verdict). then v (Ok tt)) p.1)).0)
 
   refused_so : (room : ℕ) (why : Refusal) → then (flex_shape ls room) marks ≡ Err why → line_verdict inner gap ls room ≡ Err why
   unfolding line_verdict

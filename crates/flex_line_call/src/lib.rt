@@ -7,9 +7,12 @@ ghost use Rattle.grid.specs.Values.{Length};
 ghost use Rattle.checks.specs.Domain.{summed};
 ghost use Rattle.flex.specs.Flex.{outer_sum};
 ghost use Rattle.flex.specs.Items.{lists_of, count};
-ghost use Rattle.flex.specs.Accepted.{Measured, Every};
+ghost use Rattle.flex.specs.Accepted.{Measured, Every, Even};
+ghost use Rattle.checks.specs.Marks.{SoundInput};
+ghost use Rattle.flex_checks.specs.Input.{input_of};
+ghost use Rattle.flex_checks.specs.Props.{SoundInput-prop};
 ghost use Rattle.flex_line_call.specs.Call.{LineAnswered, FlexedLine};
-ghost use Rattle.flex_line_call.specs.Parts.{LineChecked, LineSummed};
+ghost use Rattle.flex_line_call.specs.Parts.{LineSummed};
 
 use checks::Refusal;
 use flex::{Item, ItemLists};
@@ -27,54 +30,54 @@ fn flex_read(items: &[Item], inner: f32, gap: f32, targets: &mut [f32]) -> Resul
     Ok(flex_items(items, inner, gap, targets))
 }
 
-// Reads a call that checks 1 to 5 have passed into a table that it is lent.
-fn flex_in(
+// A call that checks 1 to 5 have passed.
+#[derive(Clone, Copy)]
+struct CheckedLine<'a> {
     inner: f32,
     gap: f32,
-    items: ItemLists,
-    table: &mut [Item],
-    targets: &mut [f32],
-) -> Result<Flexing, Refusal>
-    requires { LineChecked inner gap (lists_of items) targets.old × (count (lists_of items) ≤ length table.old) }
-    ensures { LineSummed inner gap (lists_of items.entry) result targets.old targets.new }
-{
-    read_items(items, table);
-    flex_read(
-        &table[..items.len()],
-        grid::clean(inner),
-        grid::clean(gap),
-        targets,
-    )
+    items: ItemLists<'a>,
+    ghost even: { Even (lists_of items) },
+    ghost sound: { SoundInput (input_of inner gap (lists_of items)) } by { SoundInput-prop _ },
 }
 
-// The same in a table of the frame, of N items.
-fn flex_sized<const N: usize>(
-    inner: f32,
-    gap: f32,
-    items: ItemLists,
-    targets: &mut [f32],
-) -> Result<Flexing, Refusal>
-    requires { LineChecked inner gap (lists_of items) targets.old × (count (lists_of items) ≤ N) × (N ≤ 1024) }
-    ensures { LineSummed inner gap (lists_of items.entry) result targets.old targets.new }
-{
-    let mut table = [Item::default(); N];
-    flex_in(inner, gap, items, &mut table, targets)
-}
+impl<'a> CheckedLine<'a> {
+    // Picks a table as small as serves: clearing it takes longer than flexing a short line.
+    fn flex(self, targets: &mut [f32]) -> Result<Flexing, Refusal>
+        requires { count (lists_of self.items) ≤ length targets.old }
+        ensures { LineSummed self.entry.inner self.entry.gap (lists_of self.entry.items) result
+            targets.old targets.new }
+    {
+        match self.items.len() {
+            0..=16 => self.flex_sized::<16>(targets),
+            17..=128 => self.flex_sized::<128>(targets),
+            _ => self.flex_sized::<1024>(targets),
+        }
+    }
 
-// Picks a table as small as serves: clearing it takes longer than flexing a short line.
-fn flex_checked(
-    inner: f32,
-    gap: f32,
-    items: ItemLists,
-    targets: &mut [f32],
-) -> Result<Flexing, Refusal>
-    requires { LineChecked inner gap (lists_of items) targets.old }
-    ensures { LineSummed inner gap (lists_of items.entry) result targets.old targets.new }
-{
-    match items.len() {
-        0..=16 => flex_sized::<16>(inner, gap, items, targets),
-        17..=128 => flex_sized::<128>(inner, gap, items, targets),
-        _ => flex_sized::<1024>(inner, gap, items, targets),
+    // In a table of the frame, of N items.
+    fn flex_sized<const N: usize>(self, targets: &mut [f32]) -> Result<Flexing, Refusal>
+        requires { (count (lists_of self.items) ≤ length targets.old) × (count (lists_of self.items) ≤ N) × (N ≤ 1024) }
+        ensures { LineSummed self.entry.inner self.entry.gap (lists_of self.entry.items) result
+            targets.old targets.new }
+    {
+        let mut table = [Item::default(); N];
+        self.flex_in(&mut table, targets)
+    }
+
+    // In a table that it is lent.
+    fn flex_in(self, table: &mut [Item], targets: &mut [f32]) -> Result<Flexing, Refusal>
+        requires { (count (lists_of self.items) ≤ length targets.old)
+            × (count (lists_of self.items) ≤ length table.old) }
+        ensures { LineSummed self.entry.inner self.entry.gap (lists_of self.entry.items) result
+            targets.old targets.new }
+    {
+        read_items(self.items, table);
+        flex_read(
+            &table[..self.items.len()],
+            grid::clean(self.inner),
+            grid::clean(self.gap),
+            targets,
+        )
     }
 }
 
@@ -89,5 +92,6 @@ pub fn flex_line(
     ensures { FlexedLine inner gap (lists_of items.entry) result targets.old targets.new }
 {
     flex_checks::check_line(inner, gap, items, targets.len())?;
-    flex_checked(inner, gap, items, targets)
+    let line = CheckedLine { inner, gap, items };
+    line.flex(targets)
 }

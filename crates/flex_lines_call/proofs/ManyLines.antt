@@ -1,16 +1,16 @@
 -- The call over many lines: what its checks show, its verdict, and its items as they are read. By the laws of the checks. Assumes nothing.
 use mathlib.Core.Path.{◌≡◌, refl, sym, ap, ◌∙◌, subst}
 use mathlib.Core.List.{List}
-use Prim.Native.Nat.{ℕ, ◌≤◌}
+use Prim.Native.Nat.{ℕ, ◌≤◌, ◌<◌}
 use native.Mathlib.Omega.{arith}
-use lib.ListN.{length, take}
+use lib.ListN.{length, get_or, take}
 use Rattle.std.proofs.lemmas.List.{length-take, get_or-take}
 use lib.IntN.{ℤ}
 use lib.Ieee.{Float}
 use Rattle.grid.specs.Grid.{cleaned}
 use Rattle.grid.specs.Values.{Length}
 use Rattle.checks.specs.Domain.{Verdict, Answer, summed, then}
-use Rattle.checks.specs.Marks.{least_mark, judged}
+use Rattle.checks.specs.Marks.{least_mark, judged, SoundInput}
 use Rattle.checks.specs.declared.Refusal.{Refusal}
 use Rattle.std.specs.declared.result.Result.TheVariants.{Ok, Err}
 use Rattle.checks.proofs.Checks.{judged-checked, accepted, then_passed}
@@ -24,20 +24,30 @@ use Rattle.flex_lines.specs.Lines.{FlexedLines}
 use Rattle.flex_lines.specs.Parts.{LinesDivided}
 use Rattle.flex_lines.proofs.Going.{lines_as}
 use Rattle.flex_checks.specs.Counts.{lines_shape, lines_input}
+use Rattle.flex_checks.specs.Input.{input_of}
+use Rattle.flex.specs.Accepted.{Even}
 use Rattle.flex_checks.proofs.Accept.{refused_then, passed_then, inner_length, gap_length, measured_of}
 use Rattle.flex_checks.proofs.Division.{division-fine, shape_of}
 use Rattle.flex_lines_call.specs.Lines.{room_of, lines_verdict, AnsweredLines, FlexedByLine}
-use Rattle.flex_lines_call.specs.Parts.{CheckedLines, SummedLines}
+use Rattle.flex_lines_call.specs.Parts.{Roomy, SummedLines}
 
 -- ---- the verdict
+
+-- what checks 1 to 5 show
+pub record Shown (inner gap : Float) (counts : List ℕ) (ls : Lists) (targets : List Float) (free : List ℤ) (rounds : List ℕ) : Type 0 where
+  pub even : Even ls
+  pub sound : SoundInput (input_of inner gap ls)
+  pub whole : line_start counts (length counts) ≡ count ls
+  pub positive : (j : ℕ) → j < length counts → 0 < get_or counts j 0
+  pub roomy : Roomy (count ls) targets free rounds
 
 module _ (inner gap : Float) (counts : List ℕ) (ls : Lists) where
   abbrev marks : Verdict
   marks = judged (least_mark (lines_input inner gap counts ls))
 
   -- where checks 1 to 5 pass
-  pub checked_lines : (targets : List Float) (free : List ℤ) (rounds : List ℕ) → then (lines_shape counts ls (room_of targets free rounds)) marks ≡ Ok tt → CheckedLines inner gap counts ls targets free rounds
-  checked_lines targets free rounds h =
+  pub shown : (targets : List Float) (free : List ℤ) (rounds : List ℕ) → then (lines_shape counts ls (room_of targets free rounds)) marks ≡ Ok tt → Shown inner gap counts ls targets free rounds
+  shown targets free rounds h =
       let p = then_passed (lines_shape counts ls (room_of targets free rounds)) marks h in
       let e = shape_of counts ls (room_of targets free rounds) p.0 in
       let input = lines_input inner gap counts ls in
@@ -49,9 +59,7 @@ module _ (inner gap : Float) (counts : List ℕ) (ls : Lists) where
         sound = record { container = (s.container.0, (s.container.1.0, tt)); items = s.items };
         whole = d.0;
         positive = d.1;
-        room = omega arith;
-        free_room = omega arith;
-        rounds_room = omega arith;
+        roomy = record { targets_room = omega arith; free_room = omega arith; rounds_room = omega arith };
       }
 
   lines_refused : (room : ℕ) (why : Refusal) → then (lines_shape counts ls room) marks ≡ Err why → lines_verdict inner gap counts ls room ≡ Err why
@@ -86,7 +94,7 @@ module _ (ls : Lists) (t : List Item) (n : ℕ) (e : n ≡ count ls) (w : count 
   pub held_part : Held ls (take n t)
   held_part i h = get_or-take n t i no_item (omega (arith, e, h)) ∙ held i h
 
-pub divided_of : (inner gap i g : Float) (counts : List ℕ) (ls : Lists) (s : List Item) (targets : List Float) (free : List ℤ) (rounds : List ℕ) → i ≡ cleaned inner → g ≡ cleaned gap → length s ≡ count ls → Held ls s → CheckedLines inner gap counts ls targets free rounds
+pub divided_of : (inner gap i g : Float) (counts : List ℕ) (ls : Lists) (s : List Item) (targets : List Float) (free : List ℤ) (rounds : List ℕ) → i ≡ cleaned inner → g ≡ cleaned gap → length s ≡ count ls → Held ls s → Shown inner gap counts ls targets free rounds
     → LinesDivided i g s (length s) counts targets free rounds
 divided_of inner gap i g counts ls s targets free rounds ei eg l h p = subst (λ (n : ℕ). LinesDivided i g s n counts targets free rounds) (sym l) (record {
   inner_is = subst (λ (x : Float). Length x) (sym ei) (inner_length inner gap ls p.sound);
@@ -95,9 +103,9 @@ divided_of inner gap i g counts ls s targets free rounds ei eg l h p = subst (λ
   tabled = tabled_of ls s h (measured_of inner gap ls p.sound);
   whole = p.whole;
   positive = p.positive;
-  room = p.room;
-  free_room = p.free_room;
-  rounds_room = p.rounds_room;
+  room = p.roomy.targets_room;
+  free_room = p.roomy.free_room;
+  rounds_room = p.roomy.rounds_room;
 })
 
 module _ (ls : Lists) (s : List Item) (long : length s ≡ count ls) (held : Held ls s) (counts : List ℕ) (w : line_start counts (length counts) ≡ count ls) (targets₀ : List Float) (free₀ : List ℤ) (rounds₀ : List ℕ) (targets : List Float) (free : List ℤ) (rounds : List ℕ) where

@@ -2,14 +2,19 @@
 // "Flexible lengths").
 #![tactic(auto)]
 
-ghost use Rattle.std.specs.Prelude.{◌≤◌, length};
+ghost use Rattle.std.specs.Prelude.{◌≡◌, ℕ, ◌≤◌, ◌<◌, length, get_or};
 ghost use Rattle.checks.specs.Domain.{summed};
+ghost use Rattle.checks.specs.Marks.{SoundInput};
 ghost use Rattle.flex.specs.Flex.{outer_sum};
 ghost use Rattle.flex.specs.Items.{lists_of, count};
+ghost use Rattle.flex.specs.Accepted.{Even};
 ghost use Rattle.flex_table.specs.Table.{item_in};
+ghost use Rattle.lists.specs.ByLine.{line_start};
+ghost use Rattle.flex_checks.specs.Input.{input_of};
+ghost use Rattle.flex_checks.specs.Props.{SoundInput-prop};
 ghost use Rattle.flex_lines.specs.Parts.{LinesDivided};
 ghost use Rattle.flex_lines_call.specs.Lines.{AnsweredLines, FlexedByLine};
-ghost use Rattle.flex_lines_call.specs.Parts.{CheckedLines, SummedLines};
+ghost use Rattle.flex_lines_call.specs.Parts.{Roomy, SummedLines};
 
 use checks::{Done, Refusal};
 use flex::{Item, ItemLists};
@@ -41,71 +46,77 @@ fn flex_lines_read(
     })
 }
 
-// Reads a call that checks 1 to 5 have passed into a table that it is lent.
-fn flex_lines_in(
+// A call that checks 1 to 5 have passed.
+#[derive(Clone, Copy)]
+struct CheckedLines<'a> {
     inner: f32,
     gap: f32,
-    counts: &[u32],
-    items: ItemLists,
-    table: &mut [Item],
-    targets: &mut [f32],
-    free: &mut [i32],
-    rounds: &mut [u32],
-) -> Result<Done, Refusal>
-    requires { CheckedLines inner gap counts.now (lists_of items) targets.old free.old rounds.old
-        × (count (lists_of items) ≤ length table.old) }
-    ensures { SummedLines inner gap counts.now (lists_of items.entry) result targets.old
-        free.old rounds.old targets.new free.new rounds.new }
-{
-    read_items(items, table);
-    flex_lines_read(
-        &table[..items.len()],
-        grid::clean(inner),
-        grid::clean(gap),
-        counts,
-        targets,
-        free,
-        rounds,
-    )
+    counts: &'a [u32],
+    items: ItemLists<'a>,
+    ghost even: { Even (lists_of items) },
+    ghost sound: { SoundInput (input_of inner gap (lists_of items)) } by { SoundInput-prop _ },
+    ghost whole: { line_start counts.now (length counts.now) ≡ count (lists_of items) },
+    ghost positive: { (j : ℕ) → j < length counts.now → 0 < get_or counts.now j 0 },
 }
 
-// The same in a table of the frame, of N items.
-fn flex_lines_sized<const N: usize>(
-    inner: f32,
-    gap: f32,
-    counts: &[u32],
-    items: ItemLists,
-    targets: &mut [f32],
-    free: &mut [i32],
-    rounds: &mut [u32],
-) -> Result<Done, Refusal>
-    requires { CheckedLines inner gap counts.now (lists_of items) targets.old free.old rounds.old
-        × (count (lists_of items) ≤ N) × (N ≤ 1024) }
-    ensures { SummedLines inner gap counts.now (lists_of items.entry) result targets.old
-        free.old rounds.old targets.new free.new rounds.new }
-{
-    let mut table = [Item::default(); N];
-    flex_lines_in(inner, gap, counts, items, &mut table, targets, free, rounds)
-}
+impl<'a> CheckedLines<'a> {
+    // Picks a table as small as serves.
+    fn flex(
+        self,
+        targets: &mut [f32],
+        free: &mut [i32],
+        rounds: &mut [u32],
+    ) -> Result<Done, Refusal>
+        requires { Roomy (count (lists_of self.items)) targets.old free.old rounds.old }
+        ensures { SummedLines self.entry.inner self.entry.gap self.entry.counts.now (lists_of self.entry.items) result
+            targets.old free.old rounds.old targets.new free.new rounds.new }
+    {
+        match self.items.len() {
+            0..=16 => self.flex_sized::<16>(targets, free, rounds),
+            17..=128 => self.flex_sized::<128>(targets, free, rounds),
+            _ => self.flex_sized::<1024>(targets, free, rounds),
+        }
+    }
 
-// Picks a table as small as serves.
-fn flex_lines_checked(
-    inner: f32,
-    gap: f32,
-    counts: &[u32],
-    items: ItemLists,
-    targets: &mut [f32],
-    free: &mut [i32],
-    rounds: &mut [u32],
-) -> Result<Done, Refusal>
-    requires { CheckedLines inner gap counts.now (lists_of items) targets.old free.old rounds.old }
-    ensures { SummedLines inner gap counts.now (lists_of items.entry) result targets.old
-        free.old rounds.old targets.new free.new rounds.new }
-{
-    match items.len() {
-        0..=16 => flex_lines_sized::<16>(inner, gap, counts, items, targets, free, rounds),
-        17..=128 => flex_lines_sized::<128>(inner, gap, counts, items, targets, free, rounds),
-        _ => flex_lines_sized::<1024>(inner, gap, counts, items, targets, free, rounds),
+    // In a table of the frame, of N items.
+    fn flex_sized<const N: usize>(
+        self,
+        targets: &mut [f32],
+        free: &mut [i32],
+        rounds: &mut [u32],
+    ) -> Result<Done, Refusal>
+        requires { Roomy (count (lists_of self.items)) targets.old free.old rounds.old
+            × (count (lists_of self.items) ≤ N) × (N ≤ 1024) }
+        ensures { SummedLines self.entry.inner self.entry.gap self.entry.counts.now (lists_of self.entry.items) result
+            targets.old free.old rounds.old targets.new free.new rounds.new }
+    {
+        let mut table = [Item::default(); N];
+        self.flex_in(&mut table, targets, free, rounds)
+    }
+
+    // In a table that it is lent.
+    fn flex_in(
+        self,
+        table: &mut [Item],
+        targets: &mut [f32],
+        free: &mut [i32],
+        rounds: &mut [u32],
+    ) -> Result<Done, Refusal>
+        requires { Roomy (count (lists_of self.items)) targets.old free.old rounds.old
+            × (count (lists_of self.items) ≤ length table.old) }
+        ensures { SummedLines self.entry.inner self.entry.gap self.entry.counts.now (lists_of self.entry.items) result
+            targets.old free.old rounds.old targets.new free.new rounds.new }
+    {
+        read_items(self.items, table);
+        flex_lines_read(
+            &table[..self.items.len()],
+            grid::clean(self.inner),
+            grid::clean(self.gap),
+            self.counts,
+            targets,
+            free,
+            rounds,
+        )
     }
 }
 
@@ -126,5 +137,11 @@ pub fn flex_lines(
 {
     let room = targets.len().min(free.len().min(rounds.len()));
     flex_checks::lines::check_lines(inner, gap, counts, items, room)?;
-    flex_lines_checked(inner, gap, counts, items, targets, free, rounds)
+    let lines = CheckedLines {
+        inner,
+        gap,
+        counts,
+        items,
+    };
+    lines.flex(targets, free, rounds)
 }

@@ -2,13 +2,19 @@
 use Rattle.std.proofs.Common.{rules}
 use mathlib.Core.Path.{sym}
 use Rattle.flex.specs.Items.{lists_of}
-use Rattle.flex_line_call.proofs.OneLine.{checked_of, answered_refused, answered_passed}
+use Rattle.flex_line_call.proofs.OneLine.{shown, answered_refused, answered_passed}
 use Rattle.flex_line_call.proofs.flex_line.Goals as goal
 
-pub flex_checked-requires : goal.flex_checked-requires
-flex_checked-requires c =
+pub invariant_of-line : goal.invariant_of-line
+invariant_of-line c =
     let a = c.args in
-    checked_of a.inner a.gap (lists_of a.items) _ (sym c.in_ok-check_line.ensures)
+    let p = shown a.inner a.gap (lists_of a.items) _ (sym c.in_ok-check_line.ensures) in
+    record { even = p.0; sound = p.2 }
+
+pub flex-requires : goal.flex-requires
+flex-requires c =
+    let a = c.args in
+    (shown a.inner a.gap (lists_of a.items) _ (sym c.in_ok-check_line.ensures)).1
 
 pub returns-in_err-check_line : goal.returns-in_err-check_line
 returns-in_err-check_line c =
@@ -18,5 +24,5 @@ returns-in_err-check_line c =
 pub returns : goal.returns
 returns c =
     let a = c.args in
-    answered_passed a.inner a.gap (lists_of a.items) a.targets.now c.flex_checked.new.targets c.flex_checked.result
-    (sym c.in_ok-check_line.ensures) c.flex_checked.ensures
+    answered_passed a.inner a.gap (lists_of a.items) a.targets.now c.flex.new.targets c.flex.result
+    (sym c.in_ok-check_line.ensures) c.flex.ensures
