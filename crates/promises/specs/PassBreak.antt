@@ -4,6 +4,7 @@ use Rattle.std.specs.Prelude.{◌≡◌, List, map, ℕ, ◌≤◌, length, take
 use Rattle.keywords.specs.declared.AvailableSpace.{AvailableSpace}
 use Rattle.keywords.specs.declared.Mode.{Mode}
 use Rattle.break_greedy.specs.Calls.{count_cells, units}
+use Rattle.flex.specs.declared.Item.{Item}
 use Rattle.flex.specs.Flex.{outer_units, outer_sum}
 use Rattle.flex_table.specs.Table.{items_in, Tabled}
 use Rattle.pass_break.specs.Outer.{outer_sizes}
@@ -17,5 +18,5 @@ pub record Promised : Type 0 where
   -- and they are what is read back of the cells that a call leaves, as many as it answers
   pub read_back : (n : ℕ) (lines before : List ℕ) → take (length lines) (count_cells n lines before) ≡ lines
   -- the outer sizes that are broken are, of accepted items, `outer_units` of 9.7 in sixty-fourths
-  pub table-units : (t : List Float) (n : ℕ) (gap : Float) → Tabled t n → outer_sum gap (items_in t 0 n) ≤ 16777216
+  pub table-units : (t : List Item) (n : ℕ) (gap : Float) → Tabled t n → outer_sum gap (items_in t 0 n) ≤ 16777216
       → units (outer_sizes (items_in t 0 n)) ≡ map outer_units (items_in t 0 n)
