@@ -36,6 +36,7 @@ pub fn cross_of(c: CrossNumbers) -> Cross
     }
 }
 
+#[tactic(auto, unfolding(checks::specs::Marks::least_of))]
 fn mark_bound(given: u32, x: f32) -> Mark
     ensures { result.0 ≡ least_of (coded_bound given x) 0 }
 {
@@ -46,6 +47,7 @@ fn mark_bound(given: u32, x: f32) -> Mark
 }
 
 // The three bounds, before whatever else is taken.
+#[tactic(auto, using(crate::proofs::BoundMarks::bounds_marks))]
 fn mark_bounds(c: CrossNumbers, plain: Mark) -> Mark
     ensures { (rest : List Number) → plain.0 ≡ least_of rest 0 → result.0 ≡ least_of (bounds_numbers c rest) 0 }
 {
@@ -58,6 +60,7 @@ fn mark_bounds(c: CrossNumbers, plain: Mark) -> Mark
 }
 
 // What lines along the cross axis turn on.
+#[tactic(auto, using(checks::proofs::Checks::least_one), unfolding(checks::specs::Marks::least_of))]
 pub fn mark_cross(c: CrossNumbers) -> Mark
     ensures { result.0 ≡ least_of (cross_numbers c) 0 }
 {
@@ -68,6 +71,7 @@ pub fn mark_cross(c: CrossNumbers) -> Mark
 }
 
 // What the size of one line turns on, which knows no gap.
+#[tactic(auto, using(checks::proofs::Checks::least_one))]
 pub fn mark_sizing(c: CrossNumbers) -> Mark
     ensures { result.0 ≡ least_of (sizing_numbers c) 0 }
 {

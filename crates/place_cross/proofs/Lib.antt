@@ -1,4 +1,3 @@
-pub mod LineLaws
 pub mod AcrossLaws
 pub mod Stretched
 pub mod AutoMargins

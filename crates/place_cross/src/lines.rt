@@ -55,7 +55,7 @@ fn grow_line(more: f32, x: f32) -> f32
 }
 
 // The sum of the lines, each with its gain.
-#[tactic(auto, using(place_align::proofs::Totals::total_turn), unfolding(place_align::specs::Sums::total_up_to))]
+#[tactic(auto, unfolding(place_align::specs::Sums::total_up_to))]
 fn sum_lines(more: f32, lines: &[f32]) -> f32
     requires { length lines.now ≤ 1024 }
     ensures { result ≡ total_up_to (grown_at more lines.now) (length lines.now) }
@@ -79,6 +79,7 @@ fn stretch_lines(more: f32, lines: &[f32], sizes: &mut [f32])
 }
 
 // Stretches and places the accepted lines, and gives the container's inner cross size. No entry point: there is room.
+#[tactic(auto, unfolding(crate::specs::Lines::line_gain, crate::specs::Lines::container_size, crate::specs::Lines::free_cross))]
 pub fn align_lines(
     c: Cross,
     alignment: ContentAlignment,

@@ -21,6 +21,7 @@ fn check_lines_shape(n: usize, sizes: usize, offsets: usize) -> Result<(), Refus
 }
 
 // Checks 3 to 5.
+#[tactic(auto, using(crate::proofs::LinesCalled::lines_checked))]
 fn check_lines_numbers(c: CrossNumbers, alignment: u32, lines: &[f32]) -> Result<(), Refusal>
     requires { length lines.now ≤ 1024 }
     ensures { result ≡ checked (cross_lines_input c alignment lines.now) (Ok tt) }

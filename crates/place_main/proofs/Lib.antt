@@ -1,2 +1,1 @@
-pub mod MainLaws
 pub mod MainCalled

@@ -22,7 +22,7 @@ fn outer_size(target: f32, auto_start: u32, start: f32, auto_end: u32, end: f32)
 }
 
 // The finished sum of the outer sizes.
-#[tactic(auto, using(place_align::proofs::Totals::total_turn), unfolding(place_align::specs::Sums::total_up_to))]
+#[tactic(auto, unfolding(place_align::specs::Sums::total_up_to))]
 fn outer_sum(items: LineLists) -> f32
     requires { MainOneLength (lists_of items) }
     ensures { result ≡ total_up_to (outer_at (lists_of items.entry)) (count (lists_of items.entry)) }
@@ -51,9 +51,11 @@ fn free_space(inner: f32, gap: f32, items: LineLists) -> f32
 }
 
 // How many of one side's margins are auto.
+#[tactic(auto, using(place_align::proofs::Totals::autos_counted))]
 fn count_auto(auto: &[u32]) -> usize
     requires { length auto.now ≤ 1024 }
-    ensures { result ≡ autos auto.now (length auto.now) }
+    ensures counted { result ≡ autos auto.now (length auto.now) }
+    ensures few { result ≤ 1024 }
 {
     auto.iter().filter(|&&code| code != 0).count()
 }
@@ -79,7 +81,9 @@ fn justified_space(free: f32, count: usize) -> f32
     if free > 0.0 && count > 0 { 0.0 } else { free }
 }
 
-// CSS-FLEX 9.5 of one accepted line: no entry point, since the lists are of one length, and there is room.
+// CSS-FLEX 9.5 of one accepted line: no entry point, since the lists are of one length, and there is room. The three lent
+// lists stay by themselves: a struct of them asks for a clause more, that they are the same lists, and is no plainer.
+#[tactic(auto, unfolding(crate::specs::MainAxis::auto_count))]
 pub fn distribute_remaining_free_space(
     inner: f32,
     gap: f32,

@@ -35,6 +35,7 @@ fn check_main_shape(
     check_lists(&lengths, &[offsets, used_start, used_end], n)
 }
 
+#[tactic(auto, using(checks::proofs::Checks::least_one), unfolding(checks::specs::Marks::least_of))]
 fn mark_main_container(inner: f32, gap: f32, justify: u32, reversed: u32) -> Mark
     ensures { result.0 ≡ least_of (main_container_numbers inner gap justify reversed) 0 }
 {

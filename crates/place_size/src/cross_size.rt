@@ -10,6 +10,7 @@ use crate::{CrossLists, container};
 use grid::floats::{lower, raise};
 
 // What an item's cross size and margins turn on. `capped` says that there is a maximum; `edges` is padding plus border.
+// The flags stay beside their numbers, since `start_long`, `short_start`, `short_fills` and `worked` speak of both.
 #[derive(Clone, Copy)]
 pub struct CrossItem {
     pub measured: f32,
@@ -91,7 +92,7 @@ pub fn item_at(items: CrossLists, i: usize) -> CrossItem
 }
 
 // The largest outer cross size of a line's items, and zero.
-#[tactic(auto, using(crate::proofs::Largest::largest_turn), unfolding(crate::specs::CrossSize::largest))]
+#[tactic(auto, unfolding(crate::specs::CrossSize::largest))]
 fn largest_outer(items: CrossLists) -> f32
     requires { CrossOneLength (lists_of items) }
     ensures { result ≡ largest_outer (lists_of items.entry) }

@@ -10,7 +10,8 @@ pub mod container; // container.rt: the container's inner cross size and its bou
 pub mod cross_size; // cross_size.rt: the cross size of a line from its items
 
 // The items of a line across it, in lists. A maximum counts where the code of `capped` is not 0, and a margin is auto
-// where its code is not 0; `edges` are padding plus border.
+// where its code is not 0; `edges` are padding plus border. No invariant says that the lists are of one length: a host
+// hands over lists of any lengths, and check 2 looks at them here.
 #[derive(Clone, Copy)]
 pub struct CrossLists<'a> {
     pub measured: &'a [f32],
