@@ -121,7 +121,8 @@ pub struct Tables<'a> {
 }
 
 // The rows for 2 lines up to `line_count`. A row has only the starts that the rows after it, or the read-back, ask for.
-// No entry point.
+// Each lends its part of `opts` by a range: of cells written through `chunks_exact_mut` a proof knows nothing. No entry
+// point.
 pub fn rows(
     sums: Sums,
     tables: Tables,
