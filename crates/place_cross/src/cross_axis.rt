@@ -136,9 +136,10 @@ pub fn place_items(line: f32, reversed: bool, items: AcrossLists, cells: &mut Ac
     requires same_lengths { SameLengths (lists_of items.cross) items.alignment.now items.auto_size.now }
     requires across_room { AcrossRoom (count (lists_of items.cross)) cells.old.sizes.now cells.old.used_start.now
         cells.old.used_end.now cells.old.offsets.now }
-    ensures placed { Across line reversed (lists_of items.entry.cross) items.entry.alignment.now items.entry.auto_size.now
-        cells.old.sizes.now cells.old.used_start.now cells.old.used_end.now cells.old.offsets.now
-        cells.new.sizes.now cells.new.used_start.now cells.new.used_end.now cells.new.offsets.now }
+    ensures placed { Across line reversed (lists_of items.entry.cross) items.entry.alignment.now
+        items.entry.auto_size.now cells.old.sizes.now cells.old.used_start.now cells.old.used_end.now
+        cells.old.offsets.now cells.new.sizes.now cells.new.used_start.now cells.new.used_end.now
+        cells.new.offsets.now }
     ensures same_cells { SameCells cells.old cells.new }
 {
     let height = grid::clean(line);

@@ -79,7 +79,6 @@ fn stretch_lines(more: f32, lines: &[f32], sizes: &mut [f32])
 }
 
 // Stretches and places the accepted lines, and gives the container's inner cross size. No entry point: there is room.
-#[tactic(auto, unfolding(crate::specs::Lines::line_gain, crate::specs::Lines::container_size, crate::specs::Lines::free_cross))]
 pub fn align_lines(
     c: Cross,
     alignment: ContentAlignment,

@@ -10,7 +10,8 @@ pub mod main_axis; // main_axis.rt: auto margins and offsets of one accepted lin
 pub mod main_call; // main_call.rt: the call, on any bits
 
 // The items of a line along it, in lists: worked-out targets and margins. A margin is auto where its code is not 0. No
-// invariant says that the lists are of one length: a host hands over lists of any lengths, and check 2 looks at them here.
+// invariant says that the lists are of one length: a host hands over lists of any lengths, and check 2 looks at them
+// here.
 #[derive(Clone, Copy)]
 pub struct LineLists<'a> {
     pub targets: &'a [f32],

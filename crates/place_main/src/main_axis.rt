@@ -81,8 +81,9 @@ fn justified_space(free: f32, count: usize) -> f32
     if free > 0.0 && count > 0 { 0.0 } else { free }
 }
 
-// CSS-FLEX 9.5 of one accepted line: no entry point, since the lists are of one length, and there is room. The three lent
-// lists stay by themselves: a struct of them asks for a clause more, that they are the same lists, and is no plainer.
+// CSS-FLEX 9.5 of one accepted line: no entry point, since the lists are of one length, and there is room. The three
+// lent lists stay by themselves: a struct of them asks for a clause more, that they are the same lists, and is no
+// plainer.
 #[tactic(auto, unfolding(crate::specs::MainAxis::auto_count))]
 pub fn distribute_remaining_free_space(
     inner: f32,
