@@ -35,7 +35,7 @@ pub fn mark_floats(kind: Kind, xs: &[f32]) -> Mark
     m
 }
 
-// The least mark of the items' numbers whose code is `taken`. No entry point.
+// The least mark of the items' numbers whose code, as C hands it over, is `taken`. No entry point.
 pub fn mark_floats_where<'a>(kind: Kind, xs: &'a [f32], codes: &'a [u32], taken: u32) -> Mark
     requires { (length xs.now ≤ 1024) × (length codes.now ≡ length xs.now) }
     ensures { result.0 ≡ least_up_to (λ i. least_of (optional (eqb (get_or codes.now i 0) taken)
@@ -55,7 +55,8 @@ pub fn mark_floats_where<'a>(kind: Kind, xs: &'a [f32], codes: &'a [u32], taken:
     m
 }
 
-// The least mark of a list of codes, each one of 0 to `most`. No entry point.
+// The least mark of a list of codes, each one of 0 to `most`. The same sweep as over floats: a trait of kinds and codes
+// would say what a cell is, what a missing one is and how each is marked, and be longer than this. No entry point.
 pub fn mark_codes(most: u32, codes: &[u32]) -> Mark
     requires { length codes.now ≤ 1024 }
     ensures { result.0 ≡ least_up_to (λ i. mark (code most (get_or codes.now i 0)) (i + 1))

@@ -24,7 +24,7 @@ pub fn mark_code_list(most: u32, codes: &[u32]) -> Mark
     crate::mark_codes(most, codes)
 }
 
-// Every item's code, 0 or 1, and the float beside it where the code is `taken`. No entry point.
+// Every item's code, 0 or 1 as C hands it over, and the float beside it where the code is `taken`. No entry point.
 pub fn mark_beside<'a>(kind: Kind, xs: &'a [f32], codes: &'a [u32], taken: u32) -> Mark
     requires { (length xs.now ≤ 1024) × (length codes.now ≡ length xs.now) }
     ensures { result.0 ≡ least_up_to (λ i. least_of (beside_at kind taken xs.now codes.now i)
