@@ -1,12 +1,12 @@
 // The pass over the unpacked lists, and its answer as it crosses to C. No entry points.
 ghost use Rattle.std.specs.Prelude.{◌≡◌, ◌*◌, ◌≤◌, length, take};
-ghost use Rattle.pass.specs.Laid.{pass_lent};
+ghost use Rattle.pass.specs.Lent.{lent_of, SameLists};
 ghost use Rattle.export_pass.specs.Passed.{c_passed, PassedFromC};
 
 use crate::CPassed;
 use checks::Refusal;
 use export_answer::CAnswer;
-use pass::Layout;
+use pass::{Layout, Lent};
 use pass_container::Container;
 
 impl From<Result<Layout, Refusal>> for CPassed {
@@ -38,38 +38,11 @@ impl From<Result<Layout, Refusal>> for CPassed {
 }
 
 // The pass over the first m items of the unpacked lists. No entry point.
-pub fn finish(
-    c: Container,
-    m: usize,
-    nums: &[f32],
-    codes: &[u32],
-    placed: &mut [f32],
-    lines: &mut [f32],
-    counts: &mut [u32],
-    rounds: &mut [u32],
-    free: &mut [i32],
-    work: &mut [u32],
-    sums: &mut [f64],
-) -> CPassed
+pub fn finish(c: Container, m: usize, nums: &[f32], codes: &[u32], lent: &mut Lent) -> CPassed
     requires { (14 * m ≤ length nums.now) × (8 * m ≤ length codes.now) }
-    ensures { PassedFromC c m (take (14 * m) nums.now) (take (8 * m) codes.now)
-        (pass_lent placed.old lines.old counts.old rounds.old
-        free.old work.old sums.old)
-        result (pass_lent placed.new lines.new counts.new rounds.new
-        free.new work.new sums.new) }
+    ensures passed { PassedFromC c m (take (14 * m) nums.now) (take (8 * m) codes.now) (lent_of lent.old) result
+        (lent_of lent.new) }
+    ensures same_lists { SameLists lent.old lent.new }
 {
-    let told = pass::pass(
-        c,
-        m,
-        &nums[..14 * m],
-        &codes[..8 * m],
-        placed,
-        lines,
-        counts,
-        rounds,
-        free,
-        work,
-        sums,
-    );
-    told.into()
+    pass::pass(c, m, &nums[..14 * m], &codes[..8 * m], lent).into()
 }

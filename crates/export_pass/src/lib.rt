@@ -6,6 +6,7 @@ ghost use Rattle.pass.specs.Laid.{pass_lent};
 ghost use Rattle.pass_items.specs.Items.{numbers_of, codes_of};
 ghost use Rattle.export_pass.specs.Passed.{PassedFromC};
 
+use pass::Lent;
 use pass_container::Container;
 use pass_items::Item;
 
@@ -47,7 +48,14 @@ pub extern "C" fn fratolivem_pass(
     let mut nums = [0.0f32; 14350];
     let mut codes = [0u32; 8200];
     pass_items::unpack(items, m, &mut nums, &mut codes);
-    finishing::finish(
-        c, m, &nums, &codes, placed, lines, counts, rounds, free, work, sums,
-    )
+    let lent = &mut Lent {
+        placed,
+        lines,
+        counts,
+        rounds,
+        free,
+        work,
+        sums,
+    };
+    finishing::finish(c, m, &nums, &codes, lent)
 }

@@ -37,7 +37,7 @@ use Rattle.pass_container.specs.Columns.{column, main_lists}
 use Rattle.keywords.specs.Space.{space_of}
 use Rattle.pass_container.specs.Container.{limit_space, break_mode}
 use Rattle.pass_container.specs.Stages.{ItemLists}
-use Rattle.pass_checks.specs.Checks.{pass_container_numbers, pass_input, pass_sum, pass_verdict}
+use Rattle.pass_checks.specs.Checks.{pass_room, pass_container_numbers, pass_input, pass_sum, pass_verdict}
 use Rattle.pass_checks.proofs.Taken.{number_length}
 use Rattle.pass_checks.proofs.Rooms.{Roomy, roomy_of}
 use Rattle.pass.specs.Laid.{PassLent}
@@ -65,8 +65,13 @@ clean_size x l = (grid_of_at (cleaned x) (sixty_fourths x) (cleaned_at 64 (at_of
 
 -- ---- the verdict, from checks 1 to 5 and check 6
 
+-- the room of the lists that are lent
+abbrev pub lent_room : Container → ℕ → List Float → List ℕ → PassLent → Bool
+lent_room c n x codes b = pass_room n (break_mode c) (length x) (length codes) (length b.placed) (length b.lines) (length b.counts) (length b.rounds) (length b.free) (length b.work) (length b.sums)
+
 module _ (c : Container) (n : ℕ) (x : List Float) (codes : List ℕ) (room : Bool) where
-  abbrev first : Verdict
+  -- what checks 1 to 5 say
+  abbrev pub first : Verdict
   first = then (shape n room) (judged (least_mark (pass_input c n x codes)))
 
   pub refused_so : (why : Refusal) → first ≡ Err why → pass_verdict c n x codes room ≡ Err why

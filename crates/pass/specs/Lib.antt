@@ -3,3 +3,4 @@ pub mod Stages
 pub mod Alone
 pub mod Pass
 pub mod Checked
+pub mod Lent

@@ -2,7 +2,9 @@
 // what the one before it answers. Stages are no entry points: they ask what the checks have shown.
 #![tactic(auto)]
 
+ghost use Rattle.std.specs.Prelude.{◌≡◌};
 ghost use Rattle.pass.specs.Laid.{pass_lent, Laid};
+ghost use Rattle.pass.specs.Lent.{lent_of, lengths_of, SameLists};
 ghost use Rattle.pass.specs.Stages.{CrossAsked, CrossLaid, MainAsked, MainLaid, PassAccepted};
 ghost use Rattle.checks.specs.Domain.{summed};
 ghost use Rattle.pass_checks.specs.Checks.{pass_sum};
@@ -73,7 +75,8 @@ pub struct Layout {
     pub inner_cross: f32,
 }
 
-// All of an accepted run. No entry point.
+// All of an accepted run. No entry point. The lent lists come one by one, since the counts of the lines are read while
+// others are written: of one `&mut` to them all, the proofs do not cover a part that is read while another is lent.
 pub fn lay_out(
     c: Container,
     items: Items,
@@ -101,70 +104,81 @@ pub fn lay_out(
     }
 }
 
+// The lists that a pass is lent. `placed` takes eight lists of n: main size, offset, start and end margin, and the same
+// on the cross axis; `lines` two: the lines' cross sizes and offsets; `counts`, `rounds` and `free` a cell for each
+// line. `work` and `sums` are cells that balanced breaking works in.
+#[derive(Drop)]
+pub struct Lent<'a> {
+    pub placed: &'a mut [f32],
+    pub lines: &'a mut [f32],
+    pub counts: &'a mut [u32],
+    pub rounds: &'a mut [u32],
+    pub free: &'a mut [i32],
+    pub work: &'a mut [u32],
+    pub sums: &'a mut [f64],
+}
+
+impl<'a> Lent<'a> {
+    pub fn lengths(&self) -> LentLengths
+        ensures { result ≡ lengths_of (lent_of self.now) }
+    {
+        LentLengths {
+            placed: self.placed.len(),
+            lines: self.lines.len(),
+            counts: self.counts.len(),
+            rounds: self.rounds.len(),
+            free: self.free.len(),
+            work: self.work.len(),
+            sums: self.sums.len(),
+        }
+    }
+}
+
 // Check 6, on the items as they are read, and then all stages. Checks 1 to 5 have passed.
-fn pass_checked(
-    c: Container,
-    items: Items,
-    placed: &mut [f32],
-    lines: &mut [f32],
-    counts: &mut [u32],
-    rounds: &mut [u32],
-    free: &mut [i32],
-    work: &mut [u32],
-    sums: &mut [f64],
-) -> Result<Layout, Refusal>
+fn pass_checked(c: Container, items: Items, lent: &mut Lent) -> Result<Layout, Refusal>
     requires { PassChecked c items.count items.numbers.now items.codes.now
-        (pass_lent placed.old lines.old counts.old rounds.old free.old work.old sums.old) }
-    ensures { PassAnswered (summed (pass_sum c items.entry.count items.entry.numbers.now items.entry.codes.now)) c
-        items.entry.count items.entry.numbers.now items.entry.codes.now
-        (pass_lent placed.old lines.old counts.old rounds.old free.old work.old sums.old) result
-        (pass_lent placed.new lines.new counts.new rounds.new free.new work.new sums.new) }
+        (lent_of lent.old) }
+    ensures answered { PassAnswered (summed (pass_sum c items.entry.count items.entry.numbers.now
+        items.entry.codes.now)) c items.entry.count items.entry.numbers.now items.entry.codes.now (lent_of lent.old) result (lent_of lent.new) }
+    ensures same_lists { SameLists lent.old lent.new }
 {
     let mut table = [Item::default(); 1024];
     pass_main::reading::read_main(items, &mut table);
     let gap = grid::clean(c.gap_main);
     checks::check_sum(flex_table::sum::outer_sum(&table[..items.count], gap))?;
     Ok(lay_out(
-        c, items, &table, placed, lines, counts, rounds, free, work, sums,
+        c,
+        items,
+        &table,
+        lent.placed,
+        lent.lines,
+        lent.counts,
+        lent.rounds,
+        lent.free,
+        lent.work,
+        lent.sums,
     ))
 }
 
 // The whole pass of any bits. The numbers are fourteen lists of n cells one after another: base, minimum, maximum,
 // padding plus border, grow, shrink, start and end margin (main axis); measured size, minimum, maximum, padding plus
 // border, start and end margin (cross axis). The codes are eight: has a maximum, auto start, auto end (main axis); has
-// a maximum, auto start, auto end, `align-self`, auto size (cross axis). `placed` takes eight lists of n: main size,
-// offset, start and end margin, and the same on the cross axis; `lines` two: the lines' cross sizes and offsets.
+// a maximum, auto start, auto end, `align-self`, auto size (cross axis).
 pub fn pass(
     c: Container,
     n: usize,
     numbers: &[f32],
     codes: &[u32],
-    placed: &mut [f32],
-    lines: &mut [f32],
-    counts: &mut [u32],
-    rounds: &mut [u32],
-    free: &mut [i32],
-    work: &mut [u32],
-    sums: &mut [f64],
+    lent: &mut Lent,
 ) -> Result<Layout, Refusal>
-    ensures { PassCall c n numbers.now codes.now
-        (pass_lent placed.old lines.old counts.old rounds.old free.old work.old sums.old) result
-        (pass_lent placed.new lines.new counts.new rounds.new free.new work.new sums.new) }
+    ensures called { PassCall c n numbers.now codes.now (lent_of lent.old) result (lent_of lent.new) }
+    ensures same_lists { SameLists lent.old lent.new }
 {
-    let lent = LentLengths {
-        placed: placed.len(),
-        lines: lines.len(),
-        counts: counts.len(),
-        rounds: rounds.len(),
-        free: free.len(),
-        work: work.len(),
-        sums: sums.len(),
-    };
-    check_pass(c, n, numbers, codes, lent)?;
+    check_pass(c, n, numbers, codes, lent.lengths())?;
     let items = Items {
         count: n,
         numbers,
         codes,
     };
-    pass_checked(c, items, placed, lines, counts, rounds, free, work, sums)
+    pass_checked(c, items, lent)
 }

@@ -40,11 +40,11 @@ lay_out-requires c =
     let w = summed_passed c.outer_sum.result (sym c.check_sum.ensures ∙ c.in_ok-check_sum.was) in
     accepted_of c.requires (c.read_main.new.table) (wide (goal.at.lay_out-requires c).After-read_main) c.read_main.ensures.held (le_trans {m = c.outer_sum.result} (le_of_eq (sym (sum_is (goal.at.lay_out-requires c).After-outer_sum))) w)
 
-pub returns-in_err-check_sum : goal.returns-in_err-check_sum
-returns-in_err-check_sum c =
+pub returns-in_err-check_sum-clause-answered : goal.returns-in_err-check_sum-clause-answered
+returns-in_err-check_sum-clause-answered c =
     let why = c.in_err-check_sum.field-0.0 in
     let e : c.from_residual.result ≡ Err why = search rules in
-    rw e (sym (ap summed (pass-sum (goal.at.returns-in_err-check_sum c).After-outer_sum)) ∙ sym c.check_sum.ensures ∙ c.in_err-check_sum.was, refl)
+    rw e (sym (ap summed (pass-sum (goal.at.returns-in_err-check_sum-clause-answered c).After-outer_sum)) ∙ sym c.check_sum.ensures ∙ c.in_err-check_sum.was, refl)
 
-pub returns : goal.returns
-returns c = (sym (ap summed (pass-sum (goal.at.returns c).After-outer_sum)) ∙ sym c.check_sum.ensures ∙ c.in_ok-check_sum.was, c.lay_out.ensures)
+pub returns-clause-answered : goal.returns-clause-answered
+returns-clause-answered c = (sym (ap summed (pass-sum (goal.at.returns-clause-answered c).After-outer_sum)) ∙ sym c.check_sum.ensures ∙ c.in_ok-check_sum.was, c.lay_out.ensures)

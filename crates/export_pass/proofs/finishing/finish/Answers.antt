@@ -10,5 +10,5 @@ slice_bounds-pass-end c = sym (length-take-le (14 * c.args.m) c.args.nums.now c.
 pub slice_bounds-pass-end-2 : goal.slice_bounds-pass-end-2
 slice_bounds-pass-end-2 c = sym (length-take-le (8 * c.args.m) c.args.codes.now c.requires.1)
 
-pub returns : goal.returns
-returns c = let called = c.pass-told in record { inside = called.result; told = c.into.ensures; passed = called.ensures }
+pub returns-clause-passed : goal.returns-clause-passed
+returns-clause-passed c = let called = c.pass in record { inside = called.result; told = c.into.ensures; passed = called.ensures.called }
