@@ -11,8 +11,8 @@ use export_answer::CAnswer;
 use flex::ItemLists;
 use flex_rounds::line::Flexing;
 
-// Number and place as in CAnswer; then the line's free space before flexing, in sixty-fourths, and its rounds. Both are
-// 0 on refusal.
+// Number and place as in CAnswer, in codes, as no enum crosses to C; then the line's free space before flexing, in
+// sixty-fourths, and its rounds. Both are 0 on refusal.
 #[repr(C)]
 #[derive(Clone, Copy)]
 pub struct CFlexed {

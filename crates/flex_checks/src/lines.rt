@@ -8,6 +8,7 @@ ghost use Rattle.flex_checks.specs.Counts.{division, lines_shape, lines_input};
 use checks::{Mark, Refusal};
 use flex::ItemLists;
 
+// The counts are checked as a code, since the definition `division` takes them as one: 0 where they divide n items.
 fn mark_counts(counts: &[u32], n: usize) -> Mark
     requires { length counts.now ≤ 1024 }
     ensures { result.0 ≡ mark (division counts.now n) 0 }
