@@ -51,7 +51,8 @@ fn mark_plain(items: ItemLists) -> Mark
     least(mark_floats(Kind::Size, items.base), m)
 }
 
-// The least mark of all numbers that a line takes, of lists of one length. No entry point.
+// The least mark of all numbers that a line takes, of lists of one length. No type says so of them: two calls and the
+// pass would each make one, of lists that then go on as they came. No entry point.
 pub fn mark_numbers(inner: f32, gap: f32, items: ItemLists) -> Mark
     requires { Even (lists_of items) }
     ensures { result.0 ≡ least_mark (input_of inner gap (lists_of items.entry)) }

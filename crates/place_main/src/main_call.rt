@@ -36,6 +36,8 @@ fn check_main_shape(
 }
 
 #[tactic(auto, using(checks::proofs::Checks::least_one), unfolding(checks::specs::Marks::least_of))]
+// The container's numbers stay single: the checks have `justify` and `reversed` as the codes that C hands over, and
+// document 01's checks take them among the numbers, while the steps have what they name, so no one struct serves both.
 fn mark_main_container(inner: f32, gap: f32, justify: u32, reversed: u32) -> Mark
     ensures { result.0 ≡ least_of (main_container_numbers inner gap justify reversed) 0 }
 {
