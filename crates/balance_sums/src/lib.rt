@@ -22,7 +22,11 @@ impl<'a> Sums<'a> {
         requires { start ≤ length self.up_to.now }
         ensures { result ≡ before_f self.entry.up_to.now start }
     {
-        if start == 0 { 0.0 } else { self.up_to[start - 1] }
+        if start == 0 {
+            0.0
+        } else {
+            self.up_to[start - 1]
+        }
     }
 
     // The size of the line that holds the items from `start` to `end`. No entry point.
