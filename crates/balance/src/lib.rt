@@ -39,8 +39,8 @@ fn search(breaking: Breaking, counts: &mut [u32], work: &mut [u32], sums: &mut [
     divide(breaking, scratch, &mut counts[..n], opts, sums)
 }
 
-// The balanced division of accepted sizes, and all named work cells 0. The lists come one by one, here and below, as the
-// C interface lends them. No entry point.
+// The balanced division of accepted sizes, and all named work cells 0. The lists come one by one, here and in the other
+// functions, as the C interface lends them. No entry point.
 pub fn divide_lent(
     limit: AvailableSpace,
     gap: f32,

@@ -12,7 +12,7 @@ use grid::floats::lower;
 use keywords::{AvailableSpace, raise_to};
 
 // What the break limit turns on: the known main size, the container's own main size, its direction, and the space and
-// bounds on its main axis.
+// bounds on its main axis. No number stands beside the first three: document 01 asks them as questions.
 #[derive(Clone, Copy)]
 pub struct Query {
     pub known_is_definite: bool,

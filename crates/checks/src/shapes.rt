@@ -1,22 +1,8 @@
-// Checks 1 and 2, list by list: lists of one length, and room in the lent ones.
-ghost use Rattle.std.specs.Prelude.{◌≡◌, ◌&&◌, ◌≤◌, eqb, leb, true};
+// Checks 1 and 2, from the lengths of lists: lists of one length, and room in the lent ones.
+ghost use Rattle.std.specs.Prelude.{◌≡◌, ◌≤◌, true};
 ghost use Rattle.checks.specs.Shapes.{work_room, shape_of, longest, alike, roomy};
 
 use crate::Refusal;
-
-// Whether one length more is n.
-pub fn is_alike(len: usize, n: usize, rest: bool) -> bool
-    ensures { result ≡ (eqb len n && rest) }
-{
-    if len == n { rest } else { false }
-}
-
-// Whether one lent list more has n cells.
-pub fn has_room(n: usize, room: usize, rest: bool) -> bool
-    ensures { result ≡ (leb n room && rest) }
-{
-    if n <= room { rest } else { false }
-}
 
 // Whether the two lists that balanced breaking works in are long enough for n items. No entry point: check 1 comes
 // before.
@@ -24,7 +10,7 @@ pub fn has_work_room(n: usize, work: usize, sums: usize) -> bool
     requires { n ≤ 1024 }
     ensures { result ≡ work_room n work sums }
 {
-    has_room(n * n + 3 * n, work, 3 * n <= sums)
+    n * n + 3 * n <= work && 3 * n <= sums
 }
 
 // Checks 1 and 2 of a call: its input lists have these lengths, and the lent ones that take n cells each have these. No

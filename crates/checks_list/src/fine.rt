@@ -20,7 +20,8 @@ pub fn are_fine(kind: Kind, xs: &[f32]) -> bool
     ok
 }
 
-// Whether those are whose code is `taken`: codes are C's, and a number that is not taken may be anything. No entry point.
+// Whether those are whose code is `taken`: the codes are C's, and a number that is not taken may be anything. No entry
+// point.
 pub fn are_fine_where<'a>(kind: Kind, xs: &'a [f32], codes: &'a [u32], taken: u32) -> bool
     requires { length codes.now ≡ length xs.now }
     ensures { result ≡ every (λ i. not (eqb (get_or codes.now i 0) taken) || fine

@@ -11,7 +11,7 @@ ghost use Rattle.checks_number.specs.Bounds.{between, bounds_of, fine};
 
 use checks::{Kind, Mark};
 
-// The least and the greatest number of a kind, and whether it is free of the grid.
+// The least and the greatest number of a kind, and whether it is free of the grid: all three count for every kind.
 #[derive(Clone, Copy)]
 pub struct Bounds {
     pub low: f32,

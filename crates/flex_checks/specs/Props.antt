@@ -1,4 +1,5 @@
--- That none of the checks refuses a call's numbers has one proof at most, so that a struct can hold it. Assumes nothing.
+-- That none of the checks refuses a call's numbers has one proof at most, so that a struct can hold it. Only types of
+-- parts cite it. Assumes nothing.
 use Rattle.std.specs.Prelude.{List, [], ◌∷◌}
 use mathlib.Core.Bool.{Bool-set}
 use mathlib.Core.HLevel.{Unit-prop, ×_prop}

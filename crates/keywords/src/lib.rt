@@ -1,7 +1,7 @@
 // The keywords that hosts hand in, as codes and as enums (document 01): spaces, bounds, wrapping and alignment.
-// Breaking and placing share them. A code comes over the C interface, and one that names nothing is refused with 5 among
-// the other numbers: so calls check codes as numbers and read them by these functions, which answer for every code,
-// where a `TryFrom` would refuse by itself, at another moment. No entry points.
+// Breaking and placing share them. A code comes over the C interface, and `checked` refuses one that names nothing with
+// 5, among the other numbers of the call: so calls check codes as numbers, and then read them by these functions, which
+// answer for every code, where a `TryFrom` would refuse by itself, at another moment. No entry points.
 #![tactic(auto)]
 
 ghost use Rattle.std.specs.Prelude.{◌≡◌};

@@ -45,7 +45,8 @@ pub record MainAsked (c : Container) (n : ℕ) (t : List Item) (x : List Float) 
   pub free_room : n ≤ length free
 
 pub record MainLaid (c : Container) (n : ℕ) (t : List Item) (x : List Float) (codes : List ℕ)
-    (placed₀ : List Float) (counts₀ rounds₀ : List ℕ) (free₀ : List ℤ) (work₀ : List ℕ) (sums₀ : List Float) (lines sum : ℕ)
+    (placed₀ : List Float) (counts₀ rounds₀ : List ℕ) (free₀ : List ℤ) (work₀ : List ℕ) (sums₀ : List Float)
+    (lines sum : ℕ)
     (placed : List Float) (counts rounds : List ℕ) (free : List ℤ) (work : List ℕ) (sums : List Float) : Type 0 where
   pub broken : LinesBroken c n t (balance.break_lent counts₀ work₀ sums₀) lines (balance.break_lent counts work sums)
   pub main : MainStage c n x codes (take lines counts) placed₀ free₀ rounds₀ sum placed free rounds

@@ -43,7 +43,7 @@ pub struct Lines {
     pub rounds: u32,
 }
 
-// The lines, and the main axis of each.
+// The lines, and the main axis of each. The lists are single for the reason that `lay_out` gives.
 fn lay_main(
     c: Container,
     items: Items,
@@ -139,7 +139,8 @@ fn pass_checked(c: Container, items: Items, lent: &mut Lent) -> Result<Layout, R
     requires { PassChecked c items.count items.numbers.now items.codes.now
         (lent_of lent.old) }
     ensures answered { PassAnswered (summed (pass_sum c items.entry.count items.entry.numbers.now
-        items.entry.codes.now)) c items.entry.count items.entry.numbers.now items.entry.codes.now (lent_of lent.old) result (lent_of lent.new) }
+        items.entry.codes.now)) c items.entry.count items.entry.numbers.now items.entry.codes.now (lent_of lent.old)
+        result (lent_of lent.new) }
     ensures same_lists { SameLists lent.old lent.new }
 {
     let mut table = [Item::default(); 1024];

@@ -17,7 +17,8 @@ use flex::Item;
 use keywords::{AvailableSpace, Mode, mode_of, space_of, wrap_of};
 use pass_container::Container;
 
-// The sizes that breaking takes: the hypothetical outer main sizes of the table's first n items. No entry point.
+// The sizes that breaking takes: the hypothetical outer main sizes of the table's first n items. The table is longer,
+// and `LinesBroken` speaks of its first n. No entry point.
 pub fn outer_sizes(table: &[Item], n: usize, sizes: &mut [f32])
     requires { Wide table.now n × (n ≤ length sizes.old) }
     ensures { sizes.new ≡ outer_sizes (items_in table.now 0 n)
@@ -42,7 +43,8 @@ fn single_line(n: usize, counts: &mut [u32]) -> usize
     1
 }
 
-// The lines of the sizes, by wrap mode. No entry point: what it asks is what the checks show.
+// The lines of the sizes, by wrap mode. The lists are single, as the breaking calls take them. No entry point: what it
+// asks is what the checks show.
 pub fn break_lines(
     mode: Mode,
     limit: AvailableSpace,

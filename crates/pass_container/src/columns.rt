@@ -21,7 +21,8 @@ pub fn store_column(xs: &[f32], n: usize, k: usize, cells: &mut [f32])
     cells[from..from + n].copy_from_slice(xs);
 }
 
-// Writes four lists, k and those after it. No entry point: they are there.
+// Writes four lists, k and those after it: an array of the four would be built at each of two calls and be no plainer.
+// No entry point: they are there.
 pub fn store_four<'a>(
     a: &'a [f32],
     b: &'a [f32],

@@ -32,7 +32,8 @@ fn size_lines(c: Container, items: Items, counts: &[u32], sizes: &mut [f32])
     cross_sizes(cross_axis(c), counts, items.cross(), sizes);
 }
 
-// The lines' sizes, stretched, their offsets, and the container's inner cross size.
+// The lines' sizes, stretched, their offsets, and the container's inner cross size. Here and below the lent lists are
+// single: of fields behind one `&mut` parts cannot be lent on together in a form that the borrow checker's proofs cover.
 fn align_sized(
     c: Container,
     items: Items,
@@ -59,7 +60,8 @@ fn align_sized(
 
 // The same in the two lists by line that the pass is lent. No entry point.
 pub fn lines_along(c: Container, items: Items, counts: &[u32], lines: &mut [f32]) -> f32
-    requires { CrossReady items.count items.numbers.now items.codes.now counts.now × (2 * items.count ≤ length lines.old) }
+    requires { CrossReady items.count items.numbers.now items.codes.now counts.now
+        × (2 * items.count ≤ length lines.old) }
     ensures { LinesPlaced c items.entry.count items.entry.numbers.now items.entry.codes.now counts.now result
         lines.old lines.new }
 {
@@ -83,7 +85,8 @@ fn across_lines(
     ends: &mut [f32],
     offsets: &mut [f32],
 )
-    requires { CrossReady items.count items.numbers.now items.codes.now counts.now × (items.count ≤ length line_sizes.now)
+    requires { CrossReady items.count items.numbers.now items.codes.now counts.now
+        × (items.count ≤ length line_sizes.now)
         × (items.count ≤ length sizes.old) × (items.count ≤ length starts.old) × (items.count ≤ length ends.old)
         × (items.count ≤ length offsets.old) }
     ensures { PlacedAcross c items.entry.count items.entry.numbers.now items.entry.codes.now counts.now
@@ -110,7 +113,8 @@ pub fn items_across(
     line_sizes: &[f32],
     placed: &mut [f32],
 )
-    requires { CrossReady items.count items.numbers.now items.codes.now counts.now × (items.count ≤ length line_sizes.now)
+    requires { CrossReady items.count items.numbers.now items.codes.now counts.now
+        × (items.count ≤ length line_sizes.now)
         × (8 * items.count ≤ length placed.old) }
     ensures { ItemsAcross c items.entry.count items.entry.numbers.now items.entry.codes.now counts.now
         line_sizes.now placed.old placed.new }

@@ -13,14 +13,15 @@ use pass_walk::main_by_line;
 
 pub mod reading; // reading.rt: the items' numbers, into the table
 
-// Whether items are walked from the last one.
+// Whether items are walked from the last one. The direction is C's code, which the checks hold to 0 to 3.
 fn is_reversed(direction: u32) -> bool
     ensures { result ≡ (eqb direction 1 || eqb direction 3) }
 {
     direction == 1 || direction == 3
 }
 
-// Flexes and spaces, into lists of n cells each.
+// Flexes and spaces, into lists of n cells each. The lists are single here and below: `MainStage` speaks of each, and of
+// four fields behind one `&mut` parts cannot be lent on together in a form that the borrow checker's proofs cover.
 fn run_main(
     c: Container,
     items: Items,
@@ -33,8 +34,8 @@ fn run_main(
     free: &mut [i32],
     rounds: &mut [u32],
 ) -> u32
-    requires main_stage_ready { MainStageReady c items.count table.now items.numbers.now items.codes.now counts.now free.old
-        rounds.old }
+    requires main_stage_ready { MainStageReady c items.count table.now items.numbers.now items.codes.now counts.now
+        free.old rounds.old }
     requires targets_len { (length targets.old ≡ items.count) × (length offsets.old ≡ items.count)
         × (length starts.old ≡ items.count) × (length ends.old ≡ items.count) }
     ensures { Run c items.entry.count items.entry.numbers.now items.entry.codes.now counts.now free.old rounds.old
@@ -80,8 +81,8 @@ fn place_by_way(
     free: &mut [i32],
     rounds: &mut [u32],
 ) -> u32
-    requires main_stage_ready { MainStageReady c items.count table.now items.numbers.now items.codes.now counts.now free.old
-        rounds.old
+    requires main_stage_ready { MainStageReady c items.count table.now items.numbers.now items.codes.now counts.now
+        free.old rounds.old
         × (4 * items.count ≤ length placed.old) }
     requires n_in_bounds { (items.count ≤ length targets.old) × (items.count ≤ length offsets.old)
         × (items.count ≤ length starts.old) × (items.count ≤ length ends.old) }

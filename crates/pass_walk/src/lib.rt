@@ -17,7 +17,8 @@ use place_size::CrossLists;
 use place_size::container::Cross;
 use place_size::cross_size::calculate_cross_size;
 
-// CSS-FLEX 9.5 of every line: no entry point, since the lines have the items of the lists, and there is room.
+// CSS-FLEX 9.5 of every line: no entry point, since the lines have the items of the lists, and there is room. What is
+// lent comes list by list, as the main axis of a line takes it.
 pub fn main_by_line(
     inner: f32,
     gap: f32,

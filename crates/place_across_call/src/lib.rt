@@ -45,7 +45,7 @@ fn check_across_shape(items: AcrossLists, cells: &AcrossCells) -> Result<(), Ref
     check_lists(&lengths, &rooms, n)
 }
 
-// Checks 3 to 5.
+// Checks 3 to 5. `reversed` is a code here and in the call, since `across_call` answers 5 for one that names nothing.
 fn check_across_numbers(line: f32, reversed: u32, items: AcrossLists) -> Result<(), Refusal>
     requires { SameLengths (lists_of items.cross) items.alignment.now items.auto_size.now }
     ensures { result ≡ checked (across_input line reversed (lists_of items.entry.cross) items.entry.alignment.now

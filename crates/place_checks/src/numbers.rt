@@ -23,6 +23,7 @@ pub struct CrossNumbers {
     pub wrap: u32,
 }
 
+// Not a `From`: it reads what checks 3 to 5 have passed, and no codes besides.
 #[tactic(auto, unfolding(crate::specs::Numbers::cross_of))]
 pub fn cross_of(c: CrossNumbers) -> Cross
     ensures { result ≡ cross_of c }
@@ -36,6 +37,7 @@ pub fn cross_of(c: CrossNumbers) -> Cross
     }
 }
 
+// The code and the number of a bound, as C hands them over.
 #[tactic(auto, unfolding(checks::specs::Marks::least_of))]
 fn mark_bound(given: u32, x: f32) -> Mark
     ensures { result.0 ≡ least_of (coded_bound given x) 0 }

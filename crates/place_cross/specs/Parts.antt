@@ -1,5 +1,5 @@
--- What the parts that place the items of a line across it ask of their lists. Only contracts of parts cite it. Assumes
--- nothing.
+-- What the parts that place the items of a line across it ask of their lists. Contracts of parts cite it, and
+-- `SameCells` that of the call inside. Assumes nothing.
 use Rattle.std.specs.Prelude.{◌≡◌, List, ℕ, ◌≤◌, length, Float}
 use Rattle.place_size.specs.CrossSize.{CrossLists, count}
 use Rattle.place_size.specs.Parts.{CrossOneLength}

@@ -78,7 +78,8 @@ fn stretch_lines(more: f32, lines: &[f32], sizes: &mut [f32])
     }
 }
 
-// Stretches and places the accepted lines, and gives the container's inner cross size. No entry point: there is room.
+// Stretches and places the accepted lines, and gives the container's inner cross size. The two lent lists stay by
+// themselves: a struct of them asks for a clause more, that they are the same lists. No entry point: there is room.
 pub fn align_lines(
     c: Cross,
     alignment: ContentAlignment,

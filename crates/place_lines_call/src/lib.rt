@@ -20,7 +20,7 @@ fn check_lines_shape(n: usize, sizes: usize, offsets: usize) -> Result<(), Refus
     check_lists(&[n], &[sizes, offsets], n)
 }
 
-// Checks 3 to 5.
+// Checks 3 to 5. The alignment is a code here and in the call, since `lines_call` answers 5 for one that names nothing.
 #[tactic(auto, using(crate::proofs::LinesCalled::lines_checked))]
 fn check_lines_numbers(c: CrossNumbers, alignment: u32, lines: &[f32]) -> Result<(), Refusal>
     requires { length lines.now ≤ 1024 }
@@ -30,7 +30,8 @@ fn check_lines_numbers(c: CrossNumbers, alignment: u32, lines: &[f32]) -> Result
     judge(least(container, mark_list(Kind::Worked, lines)))
 }
 
-// Stretches and places the lines, and answers with the container's inner cross size.
+// Stretches and places the lines, and answers with the container's inner cross size. The two lent lists stay by
+// themselves, as C lends them.
 #[tactic(auto, unfolding(crate::specs::LinesCall::cross_lines_verdict))]
 pub fn place_lines(
     c: CrossNumbers,

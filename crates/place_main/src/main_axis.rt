@@ -11,7 +11,7 @@ use grid::floats::sum_axis_gaps;
 use keywords::ContentAlignment;
 use place_align::axis;
 
-// An item with its margins, auto ones as 0.
+// An item with its margins, auto ones as 0. The codes are those of the lists, as C hands them over.
 #[tactic(auto, unfolding(crate::specs::MainAxis::main_outer))]
 fn outer_size(target: f32, auto_start: u32, start: f32, auto_end: u32, end: f32) -> f32
     ensures { result ≡ main_outer target auto_start start auto_end end }
