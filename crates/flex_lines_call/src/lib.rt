@@ -21,8 +21,8 @@ use flex::{Item, ItemLists};
 use flex_table::read_items;
 use flex_table::sum::outer_sum;
 
-// The three lent lists are passed one by one: of a bundle by value a contract cannot say what its lists hold afterwards,
-// and behind a `&mut` each of five contracts would also have to say that it still holds the lists that were lent.
+// The three lent lists are passed one by one: of a bundle by value a contract cannot say what its lists hold then, and
+// behind a `&mut` each of five contracts would also have to say that it still holds the lists that were lent.
 
 // Check 6 of items that are read, and, where it passes, their lines flexed.
 fn flex_lines_read(

@@ -1,5 +1,5 @@
-// The items' lists as the pass is handed them, and what each stage takes of them. No entry points: `check_pass` of crate
-// `pass_checks` sees that they are of the lengths that their number says.
+// The items' lists as the pass is handed them, and what each stage takes of them. No entry points: `check_pass` of
+// crate `pass_checks` sees that they are of the lengths that their number says.
 ghost use Rattle.std.specs.Prelude.{◌≡◌, ◌*◌, ◌≤◌, length};
 ghost use Rattle.flex.specs.Items as flexing;
 ghost use Rattle.place_main.specs.Lists as along;

@@ -33,7 +33,7 @@ fn size_lines(c: Container, items: Items, counts: &[u32], sizes: &mut [f32])
 }
 
 // The lines' sizes, stretched, their offsets, and the container's inner cross size. Here and below the lent lists are
-// single: of fields behind one `&mut` parts cannot be lent on together in a form that the borrow checker's proofs cover.
+// single: of fields behind one `&mut` parts cannot be lent on together in a form that the borrow checker proves.
 fn align_sized(
     c: Container,
     items: Items,
