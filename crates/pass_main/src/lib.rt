@@ -20,8 +20,8 @@ fn is_reversed(direction: u32) -> bool
     direction == 1 || direction == 3
 }
 
-// Flexes and spaces, into lists of n cells each. Here and below the lists are single: `MainStage` speaks of each, and of
-// four fields behind one `&mut` parts cannot be lent on together in a form that the borrow checker proves.
+// Flexes and spaces, into lists of n cells each. Here and below the lists are single: `MainStage` speaks of each, and
+// of four fields behind one `&mut` parts cannot be lent on together in a form that the borrow checker proves.
 fn run_main(
     c: Container,
     items: Items,
