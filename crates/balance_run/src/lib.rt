@@ -84,7 +84,8 @@ fn line_item_counts(
     line_count
 }
 
-// The balanced division of accepted sizes. The counts past the last line are 0. No entry point.
+// The balanced division of accepted sizes. The counts past the last line are 0. Sums, choices and counts are read after
+// the scratch lists are done with, and stay single. No entry point.
 pub fn counts_of_sizes(
     sizes: &[f32],
     gap: Units,
