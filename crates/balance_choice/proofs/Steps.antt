@@ -406,3 +406,20 @@ module _ {sums : List Float} {gap : Float} {fit : List ℕ} {prev : List Float} 
             go (same h) =
                 rw (h, opts_at, cur_at, xe)
                 (here.0, cost_holds q sums gap fit prev maxEnd R s e P.end_lo (stands q sums gap fit prev maxEnd R s e (all s ls sh).0 P.end_lo here.0.has.ok.fit here.0.has.feas))
+
+-- ---- the search for an end that no zero item follows
+pub record Passed (sums : List Float) (gap : Float) (from stop end : ℕ) : Type 0 where
+  pub lo : from ≤ end
+  pub hi : from < end → end ≤ stop
+  pub zeros : (e : ℕ) → from ≤ e → e < end → zero_f sums gap e ≡ true
+
+pub passed_more : (sums : List Float) (gap : Float) (from stop end : ℕ) → Passed sums gap from stop end → end < stop → zero_f sums gap end ≡ true → Passed sums gap from stop (end + 1)
+passed_more sums gap from stop end p l h = record {
+  lo = omega (arith, p.lo);
+  hi = λ _. omega arith;
+  zeros = λ e u v. at e u (eq-or-lt_of_le (let g : e ≤ end = omega arith in g));
+}
+  where
+    at : (e : ℕ) → from ≤ e → (e ≡ end) ⊎ (e < end) → zero_f sums gap e ≡ true
+    at e u (inl i) = rw i h
+    at e u (inr i) = p.zeros e u i

@@ -8,6 +8,7 @@ use mathlib.Core.List.{List, [], ◌∷◌, ◌++◌, map, map-append, append_as
 use lib.ListN.{length, set, take, drop, get_or, length-set, length-map, length-append, length-drop, take-append-drop, drop_of_length-le}
 use lib.Seq.{length-take-le, take-suc, drop-cons, set-append_left, set_at, append_snoc, drop-drop, take_at, drop-append-add, get_or-take}
 use Rattle.pass_items.specs.Parts.{stored}
+use Rattle.pass_items.proofs.Stored.{length-stored}
 
 module _ {A : Type 0} (m : ℕ) where
   -- a store behind a front leaves the front alone
@@ -142,3 +143,8 @@ module _ {A X : Type 0} (m : ℕ) (xs : List X) where
 
   pub laid_all : (f : X → A) (fs : List (X → A)) (d : X) (l : List A) → m ≤ length xs → length (f ∷ fs) * m ≤ length l → laid (values (f ∷ fs)) d l m ≡ joined (map f (take m xs)) fs ++ drop (length (f ∷ fs) * m) l
   laid_all f fs d l few h = laid_front (f ∷ fs) d l m (le_refl m) few h ∙ front_all (f ∷ fs) l h ∙ sym (joined_rest (map f (take m xs)) fs (drop (length (f ∷ fs) * m) l))
+
+  -- storing changes no length
+  pub length_laid : (fields : X → List A) (d : X) (l : List A) (i : ℕ) → length (laid fields d l i) ≡ length l
+  length_laid fields d l zero = refl
+  length_laid fields d l (suc i) = length-stored m (fields (get_or xs i d)) (laid fields d l i) i ∙ length_laid fields d l i

@@ -9,7 +9,7 @@ use lib.Seq.{take-length}
 use Rattle.pass_items.specs.declared.Item.{Item}
 use Rattle.pass_items.specs.Items.{numbers_of, codes_of}
 use Rattle.pass_items.specs.Parts.{numbers_in, codes_in}
-use Rattle.pass_items.proofs.Columns.{laid, laid_all, taken_all, joined_at}
+use Rattle.pass_items.proofs.Columns.{laid, length_laid, laid_all, taken_all, joined_at}
 
 -- what stands past the end of a list of items
 abbrev pub blank : Item
@@ -79,3 +79,10 @@ pub codes_at : (xs : List Item) (k : ℕ) → k < 8 → take (length xs) (drop (
 codes_at xs k h =
     subst (λ (ys : List Item). take (length xs) (drop (k * length xs) (codes_of ys)) ≡ map (get_or ((λ (x : Item). x.has_main_maximum) ∷ code_fields) k (λ (x : Item). 0)) ys) (take-length xs)
     (joined_at (length xs) xs (λ (x : Item). x.has_main_maximum) code_fields k (λ (x : Item). 0) (le_refl (length xs)) h)
+
+-- the lists are as long as they were
+pub length_numbers : (m : ℕ) (xs : List Item) (l : List Float) (i : ℕ) → length (numbers_laid m xs l i) ≡ length l
+length_numbers m xs l i = length_laid m xs numbers_in blank l i
+
+pub length_codes : (m : ℕ) (xs : List Item) (l : List ℕ) (i : ℕ) → length (codes_laid m xs l i) ≡ length l
+length_codes m xs l i = length_laid m xs codes_in blank l i

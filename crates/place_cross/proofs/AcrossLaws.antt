@@ -44,3 +44,14 @@ module _ (p : ℕ → CrossPlace) (sizes₀ starts₀ ends₀ offsets₀ : List 
       ends_long = simp length-set w.ends_long;
       offsets_long = simp length-set w.offsets_long;
     }
+
+-- the lists are as long as they were
+pub record Long (sizes₀ starts₀ ends₀ offsets₀ sizes starts ends offsets : List Float) : Type 0 where
+  pub sizes_long : length sizes ≡ length sizes₀
+  pub starts_long : length starts ≡ length starts₀
+  pub ends_long : length ends ≡ length ends₀
+  pub offsets_long : length offsets ≡ length offsets₀
+
+module _ (p : ℕ → CrossPlace) (sizes₀ starts₀ ends₀ offsets₀ : List Float) {sizes starts ends offsets : List Float} {i : ℕ} (w : Writing p sizes₀ starts₀ ends₀ offsets₀ sizes starts ends offsets i) where
+  pub writing_long : Long sizes₀ starts₀ ends₀ offsets₀ sizes starts ends offsets
+  writing_long = record { sizes_long = w.sizes_long; starts_long = w.starts_long; ends_long = w.ends_long; offsets_long = w.offsets_long }
