@@ -11,7 +11,7 @@ use lib.Ieee.{Float}
 use Rattle.flex.specs.declared.Item.{Item}
 use Rattle.flex.specs.declared.Line.{Line}
 use Rattle.flex.specs.Flex.{Cell, unfrozen, round, after}
-use Rattle.flex_rounds.specs.Cells.{cell_at, cells_of, Untouched, Rewritten}
+use Rattle.flex_rounds.specs.Cells.{cell_at, cells_of, Untouched, Rewritten, Ran}
 use Rattle.lists.specs.Cells.{each}
 use Rattle.lists.proofs.Each.{length-each}
 use Rattle.flex_table.specs.Table.{item_in}
@@ -56,3 +56,10 @@ module _ {items : List Item} {ln : Line} {frozen₀ : List Bool} {targets₀ : L
   pub running_less : {frozen' : List Bool} {targets' : List Float} → 0 < unfrozen (cells_of items frozen targets) → Rewritten items (round ln (cells_of items frozen targets)) targets frozen' targets'
       → unfrozen (cells_of items frozen' targets') < unfrozen (cells_of items frozen targets)
   running_less h w = subst (λ l. unfrozen l < unfrozen (cells_of items frozen targets)) (sym w.cells_are) (falls ln (cells_of items frozen targets) h)
+
+  -- with no item left, all rounds are run
+  pub running_done : 0 ≡ unfrozen (cells_of items frozen targets) → Ran items ln rounds frozen₀ targets₀ frozen targets
+  running_done h = record {
+    number = record { needed = r.needed; over = ap unfrozen (sym r.cells_are) ∙ sym h };
+    written = record { cells_are = r.cells_are; kept = r.kept };
+  }

@@ -13,6 +13,8 @@ use Rattle.lists.specs.ByLine.{line_start, part, Division}
 use Rattle.place_size.specs.CrossSize.{CrossLists, count}
 use Rattle.place_size.specs.Lists as lent
 use Rattle.place_cross.specs.CrossAxis.{Across}
+use Rattle.place_cross.specs.Parts.{SameLengths, AcrossRoom}
+use Rattle.place_size.specs.Parts.{CrossOneLength}
 use Rattle.pass_walk.specs.Sizes.{cross_line}
 use Rattle.pass_walk_across.specs.Cross.{AcrossLines}
 use Rattle.pass_walk_across.specs.Parts.{AcrossReady}
@@ -163,3 +165,37 @@ module _ {reversed : Bool} where
     ends_same = same_parts counts e₀ e e' d p.ends_past q.ends_past (λ j h. (across_independent p q j j h h refl refl refl refl).ends_same);
     offsets_same = same_parts counts o₀ o o' d p.offsets_past q.offsets_past (λ j h. (across_independent p q j j h h refl refl refl refl).offsets_same);
   }
+
+-- ---- what a line is lent, as its own step asks it
+module _ {ls : CrossLists} {sizes starts ends offsets : List Float} {from to : ℕ} (t : Turn ls sizes starts ends offsets from to) where
+  pub lent_lengths : {alignment auto-size : List ℕ} → SameLengths ls alignment auto-size → SameLengths (lent.part from to ls) (mid_of from (to - from) alignment) (mid_of from (to - from) auto-size)
+  lent_lengths {alignment} {auto-size} s =
+      let e = s.even in
+      let w = t.inside.counted in
+      let n = mid_len from to ls.measured w in
+      let even : CrossOneLength (lent.part from to ls) = record {
+        few = omega (arith, n, t.inside.few);
+        minimum = mid_len from to ls.minimum (omega (arith, w, e.minimum)) ∙ sym n;
+        maximum = mid_len from to ls.maximum (omega (arith, w, e.maximum)) ∙ sym n;
+        capped = mid_len from to ls.capped (omega (arith, w, e.capped)) ∙ sym n;
+        edges = mid_len from to ls.edges (omega (arith, w, e.edges)) ∙ sym n;
+        start = mid_len from to ls.start (omega (arith, w, e.start)) ∙ sym n;
+        end = mid_len from to ls.end (omega (arith, w, e.end)) ∙ sym n;
+        auto_start = mid_len from to ls.auto_start (omega (arith, w, e.auto_start)) ∙ sym n;
+        auto_end = mid_len from to ls.auto_end (omega (arith, w, e.auto_end)) ∙ sym n;
+      } in
+      record {
+        even = even;
+        alignment_length = mid_len from to alignment (omega (arith, w, s.alignment_length)) ∙ sym n;
+        auto_length = mid_len from to auto-size (omega (arith, w, s.auto_length)) ∙ sym n;
+      }
+
+  pub lent_room : AcrossRoom (length (mid_of from (to - from) ls.measured)) (mid_of from (to - from) sizes) (mid_of from (to - from) starts) (mid_of from (to - from) ends) (mid_of from (to - from) offsets)
+  lent_room =
+      let n = mid_len from to ls.measured t.inside.counted in
+      record {
+        sizes_room = omega (arith, n, mid_len from to sizes t.in_sizes);
+        starts_room = omega (arith, n, mid_len from to starts t.in_starts);
+        ends_room = omega (arith, n, mid_len from to ends t.in_ends);
+        offsets_room = omega (arith, n, mid_len from to offsets t.in_offsets);
+      }
