@@ -92,8 +92,8 @@ fn put_fields<T: Copy>(cells: &mut [T], m: usize, i: usize, fields: &[T])
     }
 }
 
-// The first m items, by columns; every cell past them is as it was. Numbers and codes go into lists of their own, as the
-// pass takes them. No entry point.
+// The first m items, by columns; every cell past them is as it was. Numbers and codes go into lists of their own, as
+// the pass takes them. No entry point.
 pub fn unpack(items: &[Item], m: usize, nums: &mut [f32], codes: &mut [u32])
     requires { (m ≤ length items.now) × ((14 * m ≤ length nums.old) × (8 * m ≤ length codes.old)) }
     ensures { (nums.new ≡ numbers_of (take m items.now) ++ drop (14 * m) nums.old)

@@ -14,7 +14,8 @@ pub fn margin_or(share: f32, auto: u32, x: f32) -> f32
     if auto == 0 { grid::clean(x) } else { share }
 }
 
-// The used margins of one side, from its codes and its margins, which C hands over as lists of their own. No entry point.
+// The used margins of one side, from its codes and its margins, which C hands over as lists of their own. No entry
+// point.
 #[tactic(auto, using(lists::proofs::Each::written_none, lists::proofs::Each::written_turn))]
 pub fn use_margins(share: f32, auto: &[u32], margins: &[f32], used: &mut [f32])
     requires { (length auto.now ≡ length margins.now) × (length margins.now ≤ length used.old)
