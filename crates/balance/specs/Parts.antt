@@ -11,6 +11,7 @@ use Rattle.balance_rule.specs.Rule.{Balanced}
 use Rattle.balance.specs.Calls.{BreakLent}
 
 -- the room of the lent lists for n items, as the checks show it
+-- (a clause, and no type: C lends them one by one)
 abbrev pub Roomy : ℕ → BreakLent → Type 0
 Roomy n l = (n ≤ length l.counts) × (n * n + 3 * n ≤ length l.work) × (3 * n ≤ length l.sums)
 

@@ -40,8 +40,8 @@ fn most(limit: AvailableSpace) -> Option<Units>
 }
 
 // The balanced division of accepted sizes, in lists of exactly the cells that it takes. Of the lists to work in, those
-// that a caller may lend (opts and sums) are left zero: they may hold anything before a call, so each cell is owed. No
-// entry point.
+// that a caller may lend (opts and sums) are left zero: they may hold anything before a call, so each cell is owed.
+// These stay single beside the scratch lists, of which nothing is said afterwards. No entry point.
 pub fn divide(
     breaking: Breaking,
     scratch: Scratch,

@@ -81,7 +81,8 @@ fn first_start(greedy: &[u32], from: usize, lines: usize) -> usize
 }
 
 // One row: the starts from `start_lo` to `last`, divided into `lines` lines. What follows their first lines starts at
-// `seen` or later. The three lent lists stay single: of a struct of them, one could not be read while another is lent.
+// `seen` or later. The three lent lists stay single, here and in `rows`: of a struct of them, one could
+// not be read while another is lent.
 fn one_row(
     sums: Sums,
     fit: &[u32],

@@ -50,6 +50,7 @@ pub record CountsFrom (fit greedy : List ℕ) (start : ℕ) : Type 0 where
   pub step : (t : ℕ) → start ≤ t → t < length fit → get_or greedy t 0 ≡ 1 + get_or greedy (ends fit t) 0
 
 -- the fit ends' range: what an access needs
+-- (a clause, and no type: the table is a part of a lent list, which is filled before it is read)
 pub record FitRange (fit : List ℕ) : Type 0 where
   pub lo : (s : ℕ) → s < length fit → s ≤ get_or fit s 0
   pub hi : (s : ℕ) → s < length fit → get_or fit s 0 < length fit

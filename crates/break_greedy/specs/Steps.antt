@@ -15,6 +15,7 @@ LengthLimit MinContent = Unit {0}
 LengthLimit MaxContent = Unit {0}
 
 -- what breaking works on once the checks have passed
+-- (a clause, and no type: `greedy_call` and `BalancedCall` speak of limit, gap and sizes one by one)
 pub record Breakable (limit : AvailableSpace) (gap : Float) (sizes : List Float) : Type 0 where
   pub few : length sizes ≤ 1024
   pub each : Lengths sizes

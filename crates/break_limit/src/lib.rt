@@ -70,7 +70,7 @@ fn by_maximum(q: Query, maximum: Option<f32>) -> AvailableSpace
     AvailableSpace::Definite(grid::clean(number))
 }
 
-// The break limit of numbers that have passed the checks.
+// The break limit of numbers that have passed the checks: document 01's rule, and no conversion.
 pub fn limit_of(q: Query) -> AvailableSpace
     ensures { result ≡ break_limit q }
 {

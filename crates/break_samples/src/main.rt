@@ -7,6 +7,7 @@ use checks::{Done, Place, Refusal};
 use keywords::AvailableSpace;
 use std::io;
 
+// Prints a refusal as the samples have it.
 fn refused(rt: &impl Print, why: Refusal) -> io::Result<()> {
     let number = why.number();
     match why.place() {

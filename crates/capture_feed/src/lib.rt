@@ -15,7 +15,7 @@ pub struct Reader {
     pub stage: Stage,
     // The offset where the record starts that is being read, or the one that broke.
     pub place: u64,
-    // How many of its bytes have come, and these bytes.
+    // How many of its bytes have come, and these bytes: no heap, so no `Vec`.
     pub have: usize,
     pub pending: [u8; 12],
     // The record of kind 1, once it was read.

@@ -67,6 +67,7 @@ fn float_at(bytes: &[u8], at: usize) -> f32
     f32_from_bits_with_nan(word_at(bytes, at))
 }
 
+// A record of kind 1. It asks for its twelve bytes, which a `From` could not ask.
 fn head_of(bytes: &[u8]) -> Head
     requires { 12 ≤ length bytes.now }
     ensures { result ≡ head_of bytes.now }

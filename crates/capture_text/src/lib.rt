@@ -36,8 +36,8 @@ impl From<BrokenAt> for Fault {
     }
 }
 
-// A text that is being written, from the front of the cells on. It is put together by hand, since `write!` may answer
-// an error, and `spell` promises its text for every answer.
+// A text that is being written, from the front of the lent cells on: no heap, so no `String`. It is put together by
+// hand, since `write!` may answer an error, and `spell` promises its text for every answer.
 #[derive(Drop)]
 struct Text<'a> {
     cells: &'a mut [u8],
@@ -120,7 +120,7 @@ impl<'a> Text<'a> {
         }
     }
 
-    // The beginning of a refusal's line.
+    // The beginning of a refusal's line. The number is a `u32`, since 7 is no `Refusal`'s.
     fn put_head(&mut self, number: u32)
         requires { (number < 8) × (self.old.length + 15 ≤ length self.old.cells.now) }
         ensures { Puts (head_text number) self.old self.new }

@@ -1,7 +1,8 @@
 // Refusals 1 to 6 of document 01, "Domain and refusal numbers": what a number may be, which refusal comes first, and
 // what a call answers. A call takes the marks of its numbers (crates `checks_number` and `checks_list`), keeps the
 // least, and has it judged once, before its first store. These are parts for calls of other crates to compose, and no
-// entry points.
+// entry points. That there are at most 1,024 items is a clause of theirs and of others, and no type: a number of items
+// is the length of a list.
 #![tactic(auto)]
 
 ghost use Rattle.std.specs.Prelude.{◌≡◌, min};
@@ -115,6 +116,7 @@ pub fn judge(m: Mark) -> Result<(), Refusal>
     Ok(())
 }
 
+// The place in a mark, by the name that the definition has: a `From` of any number would say more than is meant.
 fn place_of(n: u32) -> Place
     ensures { result ≡ place_of n }
 {

@@ -25,6 +25,7 @@ fn between(low: f32, high: f32, free: bool) -> Bounds
     Bounds { low, high, free }
 }
 
+// By the name that the definition has: a `From` would say the same in more lines.
 pub fn bounds_of(kind: Kind) -> Bounds
     ensures { result ≡ bounds_of kind }
 {
@@ -76,7 +77,8 @@ pub fn mark_float(kind: Kind, x: f32, place: u32) -> Mark
     }
 }
 
-// The mark of a float that may be absent. No entry point.
+// The mark of a float that may be absent. The flag is C's code, asked, as `optional` of specs/ takes it. No entry
+// point.
 pub fn mark_given(kind: Kind, x: f32, given: bool, place: u32) -> Mark
     requires { place ≤ 1024 }
     ensures { result.0 ≡ least_of (optional given (float kind x)) place }

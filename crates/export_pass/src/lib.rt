@@ -45,6 +45,7 @@ pub extern "C" fn fratolivem_pass(
         free.new work.new sums.new) }
 {
     let m = pass_items::held(items.len());
+    // In the frame, not in a `Vec`: no heap.
     let mut nums = [0.0f32; 14350];
     let mut codes = [0u32; 8200];
     pass_items::unpack(items, m, &mut nums, &mut codes);

@@ -27,6 +27,8 @@ abbrev pub Every : (Item → Type 0) → List Item → Type 0
 Every P [] = Unit {0}
 Every P (it ∷ l) = P it × Every P l
 
+-- what the checks accepted of a line (a clause, and no type: `some_answer` and `overfull` speak of inner size, gap and
+-- items one by one)
 pub record Accepted (inner gap : Float) (items : List Item) : Type 0 where
   pub inner_is : Length inner
   pub gap_is : Length gap

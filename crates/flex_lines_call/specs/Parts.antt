@@ -8,6 +8,7 @@ use Rattle.flex.specs.Items.{Lists, count, item_at, items_of}
 use Rattle.flex_lines_call.specs.Lines.{AnsweredLines}
 
 -- there are n cells in each lent list
+-- (a clause, and no type: C lends them one by one)
 pub record Roomy (n : ℕ) (targets : List Float) (free : List ℤ) (rounds : List ℕ) : Type 0 where
   pub targets_room : n ≤ length targets
   pub free_room : n ≤ length free

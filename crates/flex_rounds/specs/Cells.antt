@@ -18,6 +18,7 @@ abbrev pub cells_of : List Item → List Bool → List Float → List Cell
 cells_of items frozen targets = each (length items) (cell_at items frozen targets)
 
 -- the line has at most 1,024 items, and room in the marks and the targets
+-- (a clause, and no type: marks and targets are lent, and each step speaks of them before and after)
 pub record LineRoom (items : List Item) (frozen : List Bool) (targets : List Float) : Type 0 where
   pub few : length items ≤ 1024
   pub marks : length items ≤ length frozen

@@ -1,5 +1,5 @@
 // A line: its free space before flexing, the items that are frozen at first, and the rounds while an item is unfrozen.
-// No entry points.
+// Marks and targets are lists beside the items, for the reason that rounds.rt gives. No entry points.
 ghost use Rattle.std.specs.Prelude.{◌≡◌, map, ◌≤◌, length};
 ghost use Rattle.grid.specs.Grid.{cleaned};
 ghost use Rattle.flex.specs.Flex.{total, outer, hypothetical, start_cell, free_before, Flexed};

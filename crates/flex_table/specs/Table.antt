@@ -24,6 +24,7 @@ abbrev pub item_in : List Item → ℕ → Item
 item_in t i = get_or t i no_item
 
 -- it has room for n items, of which there are at most 1,024
+-- (a clause, and no type: the table is a frame's, of which the first n items are read)
 abbrev pub Wide : List Item → ℕ → Type 0
 Wide t n = (n ≤ 1024) × (n ≤ length t)
 

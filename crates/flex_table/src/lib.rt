@@ -12,7 +12,7 @@ use flex::{Item, ItemLists};
 
 pub mod sum; // sum.rt: check 6, of a table's items
 
-// A number that is there, or else another. -0.0 is read as 0.0.
+// A number that is there, or else another, by C's code as `read_where` of specs/ has it. -0.0 is read as 0.0.
 fn read_or(x: f32, given: bool, other: f32) -> f32
     ensures { result ≡ cond given (cleaned x) other }
 {

@@ -86,6 +86,7 @@ pub enum Mode {
     Balanced,
 }
 
+// By the name that the definition has: a `From` would say the same in more lines.
 pub fn mode_of(wrap: Wrap) -> Mode
     ensures { result ≡ mode_of wrap }
 {

@@ -20,6 +20,7 @@ use pass_cross::{items_across, lines_along};
 use pass_main::place_main_axis;
 
 // The cross axis: the lines along it, and then the items across each line. Answers the container's inner cross size.
+// The lists are single for the reason that `lay_out` gives.
 fn lay_cross(
     c: Container,
     items: Items,
@@ -143,6 +144,7 @@ fn pass_checked(c: Container, items: Items, lent: &mut Lent) -> Result<Layout, R
         result (lent_of lent.new) }
     ensures same_lists { SameLists lent.old lent.new }
 {
+    // In the frame, not in a `Vec`: no heap.
     let mut table = [Item::default(); 1024];
     pass_main::reading::read_main(items, &mut table);
     let gap = grid::clean(c.gap_main);

@@ -82,6 +82,7 @@ pub fn break_items(
     ensures { LinesBroken c n table.now (break_lent counts.old work.old
         sums.old) result (break_lent counts.new work.new sums.new) }
 {
+    // In the frame, not in a `Vec`: no heap.
     let mut sizes = [0.0; 1024];
     outer_sizes(table, n, &mut sizes);
     break_lines(

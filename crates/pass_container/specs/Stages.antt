@@ -5,6 +5,7 @@ use Rattle.pass_container.specs.Columns.{column}
 -- ---- columns
 
 -- list k of n cells is one of those that a list holds
+-- (a clause, and no type: the list is lent, or read, of floats or of codes)
 pub record Inside {A : Type 0} (n k : ℕ) (l : List A) : Type 0 where
   pub few : n ≤ 1024
   pub one_of : k ≤ 13

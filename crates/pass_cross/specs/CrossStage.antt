@@ -14,6 +14,7 @@ use Rattle.pass_container.specs.Container.{wrap_mode, cross_axis}
 use Rattle.pass_container.specs.Stages.{ItemLists}
 
 -- what the checks and the breaking before it have shown: the items' lists, and lines that have the n items
+-- (a clause, and no type: the counts are a part of a lent list that another stage wrote)
 pub record CrossReady (n : ℕ) (x : List Float) (codes counts : List ℕ) : Type 0 where
   pub listed : ItemLists n x codes
   pub division : Division counts n

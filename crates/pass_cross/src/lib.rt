@@ -46,6 +46,7 @@ fn align_sized(
     ensures { AlignedLines c items.entry.count items.entry.numbers.now items.entry.codes.now counts.now
         sizes.old offsets.old result sizes.new offsets.new }
 {
+    // In the frame, not in a `Vec`: no heap.
     let mut asked = [0.0; 1024];
     size_lines(c, items, counts, &mut asked);
     let k = counts.len();
@@ -66,6 +67,7 @@ pub fn lines_along(c: Container, items: Items, counts: &[u32], lines: &mut [f32]
         lines.old lines.new }
 {
     let n = items.count;
+    // In the frame, not in a `Vec`: no heap.
     let mut sizes = [0.0; 1024];
     let mut offsets = [0.0; 1024];
     let inner = align_sized(c, items, counts, &mut sizes[..n], &mut offsets[..n]);
@@ -120,6 +122,7 @@ pub fn items_across(
         line_sizes.now placed.old placed.new }
 {
     let n = items.count;
+    // In the frame, not in a `Vec`: no heap.
     let mut sizes = [0.0; 1024];
     let mut starts = [0.0; 1024];
     let mut ends = [0.0; 1024];

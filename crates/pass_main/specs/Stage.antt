@@ -16,6 +16,7 @@ use Rattle.pass_container.specs.Stages.{ItemLists}
 
 -- what the checks show, and what has been read: the lists are there, the table holds the items, the counts are lines of
 -- them, and there is room
+-- (a clause, and no type: table, counts and room are of lists that other stages write)
 pub record MainStageReady (c : Container) (n : ℕ) (t : List Item) (x : List Float) (codes counts : List ℕ)
     (free : List ℤ) (rounds : List ℕ) : Type 0 where
   pub listed : ItemLists n x codes

@@ -132,6 +132,7 @@ pub fn place_main_axis(
         placed.old free.old rounds.old result placed.new free.new
         rounds.new }
 {
+    // In the frame, not in a `Vec`: no heap.
     let mut targets = [0.0; 1024];
     let mut offsets = [0.0; 1024];
     let mut starts = [0.0; 1024];

@@ -6,7 +6,7 @@ ghost use Rattle.place_align.specs.Axis.{margin, margin_at, walked, stepped, off
 
 use keywords::ContentAlignment;
 
-// A margin, or the share of an auto one. The code is 0 where the margin is given.
+// A margin, or the share of an auto one. The code is C's, as `margin` of specs/ takes it: 0 where the margin is given.
 #[tactic(auto, unfolding(crate::specs::Axis::margin))]
 pub fn margin_or(share: f32, auto: u32, x: f32) -> f32
     ensures { result ≡ margin share auto x }

@@ -18,6 +18,7 @@ pub enum Resolved {
     Spread(Distribution),
 }
 
+// CSS-ALIGN 5.3: what a distribution falls back to. A rule of the standard, and no conversion.
 fn fallback_of(d: Distribution) -> ContentAlignment
     ensures { result ≡ fallback_of d }
 {

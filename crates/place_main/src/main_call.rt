@@ -1,4 +1,6 @@
-// The call for the main axis of one line, on any bits.
+// The call for the main axis of one line, on any bits. The container's numbers stay single: the checks and the call
+// have `justify` and `reversed` as the codes that C hands over, since `main_call` answers 5 for one that names nothing,
+// and the steps have what they name, so no one struct serves both. The three lent lists stay single as C lends them.
 ghost use Rattle.std.specs.Prelude.{◌≡◌, [], ◌∷◌};
 ghost use Rattle.checks.specs.Domain.{checked};
 ghost use Rattle.checks.specs.Marks.{least_of};
@@ -36,8 +38,6 @@ fn check_main_shape(
 }
 
 #[tactic(auto, using(checks::proofs::Checks::least_one), unfolding(checks::specs::Marks::least_of))]
-// The container's numbers stay single: the checks have `justify` and `reversed` as the codes that C hands over, and
-// document 01's checks take them among the numbers, while the steps have what they name, so no one struct serves both.
 fn mark_main_container(inner: f32, gap: f32, justify: u32, reversed: u32) -> Mark
     ensures { result.0 ≡ least_of (main_container_numbers inner gap justify reversed) 0 }
 {

@@ -33,6 +33,7 @@ pub fn clamp_item(it: CrossItem, x: f32) -> f32
     raise(raise(lowered, it.minimum), it.edges)
 }
 
+// An auto margin is 0, by the flag that `CrossItem` keeps beside its number.
 fn or_nought(auto: bool, x: f32) -> f32
     ensures { result ≡ or_nought auto x }
 {
