@@ -20,6 +20,11 @@ use lib.Dec.{eqb}
 use Rattle.checks.specs.declared.Refusal.{Refusal}
 use Rattle.place_cross.specs.CrossAxis.{Across}
 
+-- the lengths of the lists after the first
+abbrev later : CrossLists → List ℕ → List ℕ → List ℕ
+later ls alignment auto-size =
+    length ls.minimum ∷ length ls.maximum ∷ length ls.capped ∷ length ls.edges ∷ length ls.start ∷ length ls.end ∷ length ls.auto_start ∷ length ls.auto_end ∷ length alignment ∷ length auto-size ∷ []
+
 module _ (line : Float) (reversed : ℕ) (ls : CrossLists) (alignment auto-size : List ℕ) where
   pub across_checked : {x y a k m : ℕ} {v : Verdict} → SameLengths ls alignment auto-size → x ≡ mark (float Worked line) 0 → y ≡ mark (code 1 reversed) 0 → a ≡ min x y
       → k ≡ least_up_to (λ i. least_of (across_numbers_at ls alignment auto-size i) (i + 1)) (count ls) → m ≡ min a k → v ≡ judged m → v ≡ checked (across_input line reversed ls alignment auto-size) (Ok tt)
@@ -28,8 +33,7 @@ module _ (line : Float) (reversed : ℕ) (ls : CrossLists) (alignment auto-size 
   -- a passed shape: the lists are even
   pub across_even : (z s e o : List Float) → Ok tt ≡ shape_of (lengths ls alignment auto-size) (length z ∷ length s ∷ length e ∷ length o ∷ []) (count ls) → SameLengths ls alignment auto-size
   across_even z s e o p =
-      let rest = length ls.minimum ∷ length ls.maximum ∷ length ls.capped ∷ length ls.edges ∷ length ls.start ∷ length ls.end ∷ length ls.auto_start ∷ length ls.auto_end ∷ length alignment ∷ length auto-size ∷ [] in
-      let q = shaped (count ls) rest (length z ∷ length s ∷ length e ∷ length o ∷ []) (sym p) in
+      let q = shaped (count ls) (later ls alignment auto-size) (length z ∷ length s ∷ length e ∷ length o ∷ []) (sym p) in
       let l = q.1 in
       let even : CrossOneLength ls = record {
         few = q.0;
@@ -60,22 +64,9 @@ module _ (line : Float) (reversed : ℕ) (ls : CrossLists) (alignment auto-size 
     -- a passed shape: the lists are even, and there is room
     pub across_lengths : {v : Verdict} → Shaped v → v ≡ Ok tt → SameLengths ls alignment auto-size × AcrossRoom (count ls) z s e o
     across_lengths p h =
-        let rest = length ls.minimum ∷ length ls.maximum ∷ length ls.capped ∷ length ls.edges ∷ length ls.start ∷ length ls.end ∷ length ls.auto_start ∷ length ls.auto_end ∷ length alignment ∷ length auto-size ∷ [] in
-        let q = shaped (count ls) rest rooms (sym p ∙ h) in
-        let l = q.1 in
-        let even : CrossOneLength ls = record {
-          few = q.0;
-          minimum = l.0;
-          maximum = l.1.0;
-          capped = l.1.1.0;
-          edges = l.1.1.1.0;
-          start = l.1.1.1.1.0;
-          end = l.1.1.1.1.1.0;
-          auto_start = l.1.1.1.1.1.1.0;
-          auto_end = l.1.1.1.1.1.1.1.0;
-        } in (
-          record { even = even; alignment_length = l.1.1.1.1.1.1.1.1.0; auto_length = l.1.1.1.1.1.1.1.1.1.0 },
-          record { sizes_room = q.2.0; starts_room = q.2.1.0; ends_room = q.2.1.1.0; offsets_room = q.2.1.1.1.0 },
+        let room = (shaped (count ls) (later ls alignment auto-size) rooms (sym p ∙ h)).2 in (
+          across_even line reversed ls alignment auto-size z s e o (sym h ∙ p),
+          record { sizes_room = room.0; starts_room = room.1.0; ends_room = room.1.1.0; offsets_room = room.1.1.1.0 },
         )
 
     -- refused by its shape, or by its numbers
