@@ -20,16 +20,28 @@ module _ {A : Type 0} (m : ℕ) where
   one_more (w ∷ vs) l at v = one_more vs (set l at w) (at + m) v ∙ ap (λ (j : ℕ). set (stored m (set l at w) (at + m) vs) j v) (omega (arith, suc-mul (length vs) m))
 
   -- value k goes to cell i of column k
+  pub set_next :
+      (cells old vs : List A) (k i : ℕ) (v : A) → k < length vs
+      → cells ≡ stored m old i (take k vs) → v ≡ get_or vs k v → set cells (k * m + i) v ≡ stored m old i (take (k + 1) vs)
+  set_next cells old vs k i v h was is =
+      let more : suc k ≡ k + 1 = omega arith in
+      ap (λ (l : List A). set l (k * m + i) v) was
+      ∙ ap (λ (j : ℕ). set (stored m old i (take k vs)) (j * m + i) v) (sym (length-take-le k vs (omega arith)))
+      ∙ sym (one_more (take k vs) old i v)
+      ∙ ap (stored m old i) (ap (λ (w : A). take k vs ++ (w ∷ [])) is ∙ sym (take-suc vs k v h) ∙ ap (λ (j : ℕ). take j vs) more)
+
+  -- .. which is there
+  pub inside : (cells old vs : List A) (k i : ℕ) → k < length vs → i < m → length vs * m ≤ length old → cells ≡ stored m old i (take k vs) → k * m + i < length cells
+  inside cells old vs k i h g e was =
+      let long : length cells ≡ length old = ap length was ∙ length-stored (take k vs) old i in
+      omega (arith, suc-mul k m, mul-le-mul_right {m = suc k} {n = length vs} m h)
+
+  -- the same of a part of the cells, from column k on
   pub stored_next :
       (cells old vs : List A) (k i : ℕ) (v : A) → k < length vs → i < m → length vs * m ≤ length old
       → cells ≡ stored m old i (take k vs) → v ≡ get_or vs k v
       → put_mid (k * m) (length cells - k * m) cells (set (mid_of (k * m) (length cells - k * m) cells) i v) ≡ stored m old i (take (k + 1) vs)
   stored_next cells old vs k i v h g e was is =
-      let long : length cells ≡ length old = ap length was ∙ length-stored (take k vs) old i in
-      let more : suc k ≡ k + 1 = omega arith in
-      let inside : k * m + i < length cells = omega (arith, suc-mul k m, mul-le-mul_right {m = suc k} {n = length vs} m h) in
+      let in_cells : k * m + i < length cells = inside cells old vs k i h g e was in
       set_mid_at (k * m) (length cells - k * m) i cells v (omega (arith, length-drop (k * m) cells, length-take-le (length cells - k * m) (drop (k * m) cells) (omega (arith, length-drop (k * m) cells))))
-      ∙ ap (λ (l : List A). set l (k * m + i) v) was
-      ∙ ap (λ (j : ℕ). set (stored m old i (take k vs)) (j * m + i) v) (sym (length-take-le k vs (omega arith)))
-      ∙ sym (one_more (take k vs) old i v)
-      ∙ ap (stored m old i) (ap (λ (w : A). take k vs ++ (w ∷ [])) is ∙ sym (take-suc vs k v h) ∙ ap (λ (j : ℕ). take j vs) more)
+      ∙ set_next cells old vs k i v h was is

@@ -2,7 +2,7 @@
 // numbers and one of codes, by columns.
 #![tactic(auto)]
 
-ghost use Rattle.std.specs.Prelude.{◌≡◌, ◌++◌, ◌*◌, ◌<◌, ◌≤◌, min, length, take, drop};
+ghost use Rattle.std.specs.Prelude.{◌≡◌, ◌++◌, ◌*◌, ◌^◌, ◌<◌, ◌≤◌, min, length, take, drop};
 ghost use Rattle.pass_items.specs.Items.{numbers_of, codes_of};
 ghost use Rattle.pass_items.specs.Parts.{numbers_in, codes_in, stored};
 
@@ -82,13 +82,17 @@ pub fn held(n: usize) -> usize
     n.min(1025)
 }
 
-// The fields of item i of m, each into its column of m cells. No entry point.
+// The fields of item i of m, each into its column of m cells. The place steps from column to column: so, and with the
+// items by their index in `unpack`, the compiler stores four items at once, where the columns of 1,024 items take the
+// same lines of the cache. No entry point.
 fn put_fields<T: Copy>(cells: &mut [T], m: usize, i: usize, fields: &[T])
-    requires { (i < m) × (length fields.now * m ≤ length cells.old) }
+    requires { (i < m) × (length fields.now * m ≤ length cells.old) × (length cells.old < 2 ^ 63) }
     ensures { cells.new ≡ stored m cells.old i fields.now }
 {
-    for (k, &field) in fields.iter().enumerate() {
-        cells[k * m..][i] = field;
+    let mut at = i;
+    for &field in fields {
+        cells[at] = field;
+        at += m;
     }
 }
 
@@ -99,7 +103,8 @@ pub fn unpack(items: &[Item], m: usize, nums: &mut [f32], codes: &mut [u32])
     ensures { (nums.new ≡ numbers_of (take m items.now) ++ drop (14 * m) nums.old)
         × (codes.new ≡ codes_of (take m items.now) ++ drop (8 * m) codes.old) }
 {
-    for (i, item) in items[..m].iter().enumerate() {
+    for i in 0..m {
+        let item = items[i];
         put_fields(nums, m, i, &item.numbers());
         put_fields(codes, m, i, &item.codes());
     }

@@ -1,5 +1,6 @@
 -- All items stored are `numbers_of` and `codes_of` (Laid.antt). Assumes nothing.
-use Rattle.std.proofs.Common.{◌≡◌, ◌<◌, ℕ, ap, ◌∙◌, arith, length-take-le}
+use Rattle.std.proofs.Common.{◌≡◌, ◌<◌, ℕ, sym, ap, ◌∙◌, arith, length-take-le}
+use lib.Seq.{get_or-take}
 use Rattle.pass_items.specs.Parts.{numbers_in, codes_in}
 use Rattle.pass_items.proofs.Columns.{laid_next}
 use Rattle.pass_items.proofs.Laid.{blank, numbers_laid, codes_laid, all_numbers, all_codes}
@@ -9,9 +10,10 @@ pub loop-i-preserved : goal.loop-i-preserved
 loop-i-preserved c =
     let a = c.args in
     let l = c.loop-i in
-    let h : l.i < a.m = omega (arith, c.loop-i-test.true, length-take-le a.m a.items.now c.requires.0) in (
-      laid_next a.m a.items.now numbers_in blank a.nums.now l.i _ _ _ h l.invariant.0 c.numbers.ensures c.put_fields.ensures,
-      laid_next a.m a.items.now codes_in blank a.codes.now l.i _ _ _ h l.invariant.1 c.codes.ensures c.put_fields-in-loop-i.ensures,
+    let h : l.i < a.m = c.loop-i-test.true in
+    let e = sym (get_or-take a.m a.items.now l.i blank h) in (
+      laid_next a.m a.items.now numbers_in blank a.nums.now l.i _ _ _ h l.invariant.0 (c.numbers.ensures ∙ ap numbers_in e) c.put_fields.ensures,
+      laid_next a.m a.items.now codes_in blank a.codes.now l.i _ _ _ h l.invariant.1 (c.codes.ensures ∙ ap codes_in e) c.put_fields-in-loop-i.ensures,
     )
 
 pub returns : goal.returns
