@@ -55,13 +55,14 @@ pub fn first_row(sums: Sums, prev: &mut [f64])
     }
 }
 
-// Copies the cells from `lo` up to `hi`, where there are any.
+// Copies the cells from `lo` up to `hi`, where there are any; one by one, since `copy_from_slice` calls `memmove` here,
+// a name that the archive would need from outside.
 fn copy_row(to: &mut [f64], from: &[f64], lo: usize, hi: usize)
     requires { (length to.old ≡ length from.now) × (hi ≤ length from.now) }
     ensures { (s : ℕ) → lo ≤ s → s < hi → get_or to.new s nan ≡ get_or from.now s nan }
 {
-    if lo < hi {
-        to[lo..hi].copy_from_slice(&from[lo..hi]);
+    for s in lo..hi {
+        to[s] = from[s];
     }
 }
 
