@@ -70,5 +70,5 @@ reply_paper (Ok lines) = accepted lines
 reply_paper (Err fault) = fault_paper fault
 
 abbrev pub text_of : Reply → List ℕ → List ℕ
-text_of (Ok lines) counts = lines_text (accepted lines) counts
-text_of (Err fault) counts = refusal_text (fault_paper fault)
+text_of (Ok lines) counts = lines_text (reply_paper (Ok lines)) counts
+text_of (Err fault) counts = refusal_text (reply_paper (Err fault))
