@@ -1,5 +1,4 @@
--- The lists that a pass is lent, as the record that the definitions speak of. The call inside and
--- its parts cite it. Assumes nothing.
+-- The lists that a pass is lent, as the record that the definitions speak of. Assumes nothing.
 use Rattle.std.specs.Prelude.{◌≡◌, length}
 use Rattle.pass_checks.specs.declared.LentLengths.{LentLengths}
 use Rattle.pass.specs.declared.Lent.{Lent}

@@ -6,7 +6,8 @@ ghost use Rattle.checks.specs.Domain.{checked};
 ghost use Rattle.checks.specs.Shapes.{shape_of};
 ghost use Rattle.place_size.specs.CrossSize.{count};
 ghost use Rattle.place_size.specs.Lists.{lists_of};
-ghost use Rattle.place_cross.specs.Parts.{SameLengths, SameCells};
+ghost use Rattle.place_cross.specs.Cells.{SameCells};
+ghost use Rattle.place_cross.specs.Parts.{SameLengths};
 ghost use Rattle.place_across_call.specs.AcrossCall.{across_input, lengths, across_result, across_call};
 
 use checks::shapes::check_lists;

@@ -1,3 +1,4 @@
 pub mod Lines
 pub mod CrossAxis
+pub mod Cells
 pub mod Parts

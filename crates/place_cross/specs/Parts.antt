@@ -1,9 +1,8 @@
--- What the parts that place the items of a line across it ask of their lists. Contracts of parts cite it, and
--- `SameCells` that of the call inside. Assumes nothing.
+-- What the parts that place the items of a line across it ask of their lists. Only contracts of parts cite it. Assumes
+-- nothing.
 use Rattle.std.specs.Prelude.{◌≡◌, List, ℕ, ◌≤◌, length, Float}
 use Rattle.place_size.specs.CrossSize.{CrossLists, count}
 use Rattle.place_size.specs.Parts.{CrossOneLength}
-use Rattle.place_cross.specs.declared.AcrossCells as lent
 
 -- the codes of `align-self`, and of an auto cross size, are as many as the items
 pub record SameLengths (ls : CrossLists) (alignment auto-size : List ℕ) : Type 0 where
@@ -17,10 +16,3 @@ pub record AcrossRoom (n : ℕ) (sizes starts ends offsets : List Float) : Type 
   pub starts_room : n ≤ length starts
   pub ends_room : n ≤ length ends
   pub offsets_room : n ≤ length offsets
-
--- the lists are the ones that were lent, whatever their cells are now
-pub record SameCells (before after : lent.AcrossCells) : Type 0 where
-  pub sizes : after.sizes.ghost_name ≡ before.sizes.ghost_name
-  pub starts : after.used_start.ghost_name ≡ before.used_start.ghost_name
-  pub ends : after.used_end.ghost_name ≡ before.used_end.ghost_name
-  pub offsets : after.offsets.ghost_name ≡ before.offsets.ghost_name

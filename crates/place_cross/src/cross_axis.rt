@@ -4,7 +4,8 @@ ghost use Rattle.place_size.specs.CrossSize.{count};
 ghost use Rattle.place_size.specs.Lists.{lists_of};
 ghost use Rattle.place_cross.specs.CrossAxis.{has_auto, is_stretched, used_size, free_cross, auto_margin, start_margin};
 ghost use Rattle.place_cross.specs.CrossAxis.{end_margin, cross_offset, placed_item, Across};
-ghost use Rattle.place_cross.specs.Parts.{SameLengths, AcrossRoom, SameCells};
+ghost use Rattle.place_cross.specs.Cells.{SameCells};
+ghost use Rattle.place_cross.specs.Parts.{SameLengths, AcrossRoom};
 
 use crate::{AcrossCells, AcrossLists};
 use keywords::SelfAlignment;

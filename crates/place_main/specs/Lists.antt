@@ -1,5 +1,4 @@
--- The lists in which a line's items are lent, as the record that the definitions speak of. The calls
--- inside and their parts cite it. Assumes nothing.
+-- The lists in which a line's items are lent, as the record that the definitions speak of. Assumes nothing.
 use Rattle.std.specs.Prelude.{ℕ, slice_range}
 use Rattle.place_main.specs.MainAxis.{LineLists, line_lists}
 use Rattle.place_main.specs.declared.LineLists as lent

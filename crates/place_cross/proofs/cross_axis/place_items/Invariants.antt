@@ -1,7 +1,7 @@
 -- The four lists are written from the front.
 use Rattle.place_size.specs.Lists.{lists_of}
 use Rattle.place_cross.specs.CrossAxis.{placed_at}
-use Rattle.place_cross.specs.Parts.{SameCells}
+use Rattle.place_cross.specs.Cells.{SameCells}
 use Rattle.place_cross.proofs.AcrossLaws.{Writing}
 use Rattle.place_cross.proofs.cross_axis.place_items.Given as goal
 
