@@ -278,8 +278,11 @@ choose_one P true false near to p q = p
 choose_one P false b near to p q = p
 
 -- ---- one start's choice
-to_lo : {sums : List Float} {fit : List ℕ} {prev : List Float} {maxEnd b s to : ℕ} → Safe sums fit prev maxEnd b → s ≤ maxEnd → to ≡ min (get_or fit s 0) maxEnd → s ≤ to
+pub to_lo : {sums : List Float} {fit : List ℕ} {prev : List Float} {maxEnd b s to : ℕ} → Safe sums fit prev maxEnd b → s ≤ maxEnd → to ≡ min (get_or fit s 0) maxEnd → s ≤ to
 to_lo {s = s} S sm te = omega (arith, S.fit_lo s (omega (arith, S.room)))
+
+pub to_hi : (fit : List ℕ) (s : ℕ) {maxEnd to : ℕ} → to ≡ min (get_or fit s 0) maxEnd → to ≤ maxEnd
+to_hi fit s te = omega arith
 
 module _ {sums : List Float} {gap : Float} {fit : List ℕ} {prev : List Float} {maxEnd a b s first stop to : ℕ}
     (S : Safe sums fit prev maxEnd b) (sm : s ≤ maxEnd) (f : FirstPlain sums gap (max a s) stop first) (stop_is : stop ≡ min b (get_or fit s 0 + 1))
@@ -317,7 +320,7 @@ module _ {sums : List Float} {gap : Float} {fit : List ℕ} {prev : List Float} 
   pub pick-none : stop ≤ first → PickOut sums gap fit prev maxEnd a b s to first b
   pick-none h = record {
     end_lo = to_lo S sm te;
-    end_hi = omega arith;
+    end_hi = to_hi fit s te;
     lo_lo = omega (arith, f.lo);
     hi_hi = le_refl b;
     choice = λ q R EF r H. (
@@ -331,7 +334,7 @@ module _ {sums : List Float} {gap : Float} {fit : List ℕ} {prev : List Float} 
       → PickOut sums gap fit prev maxEnd a b s e near (near + 1)
   pick_some {near} {e} l ee = record {
     end_lo = rw ee (choose_one (λ (i : ℕ). s ≤ i) (zero_f sums gap to) (le (cost_f sums prev (base_f sums gap s) to) (cost_f sums prev (base_f sums gap s) near)) near to (omega (arith, f.lo, l.lo)) (to_lo S sm te));
-    end_hi = rw ee (choose_one (λ (i : ℕ). i ≤ maxEnd) (zero_f sums gap to) (le (cost_f sums prev (base_f sums gap s) to) (cost_f sums prev (base_f sums gap s) near)) near to (omega (arith, l.hi, S.reach)) (omega arith));
+    end_hi = rw ee (choose_one (λ (i : ℕ). i ≤ maxEnd) (zero_f sums gap to) (le (cost_f sums prev (base_f sums gap s) to) (cost_f sums prev (base_f sums gap s) near)) near to (omega (arith, l.hi, S.reach)) (to_hi fit s te));
     lo_lo = omega (arith, f.lo, l.lo);
     hi_hi = omega (arith, l.hi);
     choice = λ q R EF r H.

@@ -32,11 +32,11 @@ module _ (inner gap : Float) (ls : Lists) where
       let e = even_of ls room p.0 in
       (e.0, e.1, (accepted (input_of inner gap ls) (Ok tt) (sym (judged-checked (input_of inner gap ls) e.0.few (Ok tt)) ∙ ap (λ (v : Verdict). then v (Ok tt)) p.1)).0)
 
-  refused_so : (room : ℕ) (why : Refusal) → then (flex_shape ls room) marks ≡ Err why → line_verdict inner gap ls room ≡ Err why
+  pub refused_so : (room : ℕ) (why : Refusal) → then (flex_shape ls room) marks ≡ Err why → line_verdict inner gap ls room ≡ Err why
   unfolding line_verdict
   refused_so room why h = refused_then (flex_shape ls room) (input_of inner gap ls) (summed (outer_sum (cleaned gap) (items_of ls))) why (λ e. (even_of ls room e).0.few) h
 
-  passed_so : (room : ℕ) → then (flex_shape ls room) marks ≡ Ok tt → line_verdict inner gap ls room ≡ summed (outer_sum (cleaned gap) (items_of ls))
+  pub passed_so : (room : ℕ) → then (flex_shape ls room) marks ≡ Ok tt → line_verdict inner gap ls room ≡ summed (outer_sum (cleaned gap) (items_of ls))
   unfolding line_verdict
   passed_so room h = passed_then (flex_shape ls room) (input_of inner gap ls) (summed (outer_sum (cleaned gap) (items_of ls))) (λ e. (even_of ls room e).0.few) h
 

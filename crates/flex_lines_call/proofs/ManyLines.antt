@@ -62,11 +62,11 @@ module _ (inner gap : Float) (counts : List ℕ) (ls : Lists) where
         roomy = record { targets_room = omega arith; free_room = omega arith; rounds_room = omega arith };
       }
 
-  lines_refused : (room : ℕ) (why : Refusal) → then (lines_shape counts ls room) marks ≡ Err why → lines_verdict inner gap counts ls room ≡ Err why
+  pub lines_refused : (room : ℕ) (why : Refusal) → then (lines_shape counts ls room) marks ≡ Err why → lines_verdict inner gap counts ls room ≡ Err why
   unfolding lines_verdict
   lines_refused room why h = refused_then (lines_shape counts ls room) (lines_input inner gap counts ls) (summed (outer_sum (cleaned gap) (items_of ls))) why (λ e. (shape_of counts ls room e).1.few) h
 
-  lines_passed : (room : ℕ) → then (lines_shape counts ls room) marks ≡ Ok tt → lines_verdict inner gap counts ls room ≡ summed (outer_sum (cleaned gap) (items_of ls))
+  pub lines_passed : (room : ℕ) → then (lines_shape counts ls room) marks ≡ Ok tt → lines_verdict inner gap counts ls room ≡ summed (outer_sum (cleaned gap) (items_of ls))
   unfolding lines_verdict
   lines_passed room h = passed_then (lines_shape counts ls room) (lines_input inner gap counts ls) (summed (outer_sum (cleaned gap) (items_of ls))) (λ e. (shape_of counts ls room e).1.few) h
 

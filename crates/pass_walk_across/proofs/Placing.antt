@@ -31,6 +31,19 @@ pub record Turn (ls : CrossLists) (sizes starts ends offsets : List Float) (from
   pub in_ends : to ≤ length ends
   pub in_offsets : to ≤ length offsets
 
+-- .. and what it reads: the line's range lies inside every list of the items
+pub record TurnReads (ls : CrossLists) (alignment auto-size : List ℕ) (to : ℕ) : Type 0 where
+  pub in_minimum : to ≤ length ls.minimum
+  pub in_maximum : to ≤ length ls.maximum
+  pub in_capped : to ≤ length ls.capped
+  pub in_edges : to ≤ length ls.edges
+  pub in_start : to ≤ length ls.start
+  pub in_end : to ≤ length ls.end
+  pub in_auto_start : to ≤ length ls.auto_start
+  pub in_auto_end : to ≤ length ls.auto_end
+  pub in_alignment : to ≤ length alignment
+  pub in_auto_size : to ≤ length auto-size
+
 module _ {reversed : Bool} where
   -- all cells of a line are written
   fresh : {x : Float} {ls : CrossLists} {a z : List ℕ} {u₀ s₀ e₀ o₀ u s e o : List Float} → length u₀ ≤ count ls → length s₀ ≤ count ls → length e₀ ≤ count ls → length o₀ ≤ count ls → Across x reversed ls a z u₀ s₀ e₀ o₀ u s e o → Across x reversed ls a z [] [] [] [] u s e o
@@ -91,6 +104,23 @@ module _ (reversed : Bool) (counts : List ℕ) (lines : List Float) (ls : CrossL
             in_starts = omega (arith, ready.room.starts_room, g.starts_front.long);
             in_ends = omega (arith, ready.room.ends_room, g.ends-front.long);
             in_offsets = omega (arith, ready.room.offsets_room, g.offsets-front.long);
+          }
+
+      pub reads_of : TurnReads ls alignment auto-size to
+      reads_of =
+          let w = ends-within ready.division h at_line in
+          let e = ready.lengths.even in
+          record {
+            in_minimum = omega (arith, w, e.minimum);
+            in_maximum = omega (arith, w, e.maximum);
+            in_capped = omega (arith, w, e.capped);
+            in_edges = omega (arith, w, e.edges);
+            in_start = omega (arith, w, e.start);
+            in_end = omega (arith, w, e.end);
+            in_auto_start = omega (arith, w, e.auto_start);
+            in_auto_end = omega (arith, w, e.auto_end);
+            in_alignment = omega (arith, w, ready.lengths.alignment_length);
+            in_auto_size = omega (arith, w, ready.lengths.auto_length);
           }
 
       -- the line has a size
@@ -167,28 +197,24 @@ module _ {reversed : Bool} where
   }
 
 -- ---- what a line is lent, as its own step asks it
+
+-- the stage's own requirements
 module _ {ls : CrossLists} {sizes starts ends offsets : List Float} {from to : ℕ} (t : Turn ls sizes starts ends offsets from to) where
-  pub lent_lengths : {alignment auto-size : List ℕ} → SameLengths ls alignment auto-size → SameLengths (lent.part from to ls) (mid_of from (to - from) alignment) (mid_of from (to - from) auto-size)
-  lent_lengths {alignment} {auto-size} s =
-      let e = s.even in
-      let w = t.inside.counted in
-      let n = mid_len from to ls.measured w in
+  pub lent_lengths : {alignment auto-size : List ℕ} → TurnReads ls alignment auto-size to → SameLengths (lent.part from to ls) (mid_of from (to - from) alignment) (mid_of from (to - from) auto-size)
+  lent_lengths {alignment} {auto-size} r =
+      let n = mid_len from to ls.measured t.inside.counted in
       let even : CrossOneLength (lent.part from to ls) = record {
         few = omega (arith, n, t.inside.few);
-        minimum = mid_len from to ls.minimum (omega (arith, w, e.minimum)) ∙ sym n;
-        maximum = mid_len from to ls.maximum (omega (arith, w, e.maximum)) ∙ sym n;
-        capped = mid_len from to ls.capped (omega (arith, w, e.capped)) ∙ sym n;
-        edges = mid_len from to ls.edges (omega (arith, w, e.edges)) ∙ sym n;
-        start = mid_len from to ls.start (omega (arith, w, e.start)) ∙ sym n;
-        end = mid_len from to ls.end (omega (arith, w, e.end)) ∙ sym n;
-        auto_start = mid_len from to ls.auto_start (omega (arith, w, e.auto_start)) ∙ sym n;
-        auto_end = mid_len from to ls.auto_end (omega (arith, w, e.auto_end)) ∙ sym n;
+        minimum = mid_len from to ls.minimum r.in_minimum ∙ sym n;
+        maximum = mid_len from to ls.maximum r.in_maximum ∙ sym n;
+        capped = mid_len from to ls.capped r.in_capped ∙ sym n;
+        edges = mid_len from to ls.edges r.in_edges ∙ sym n;
+        start = mid_len from to ls.start r.in_start ∙ sym n;
+        end = mid_len from to ls.end r.in_end ∙ sym n;
+        auto_start = mid_len from to ls.auto_start r.in_auto_start ∙ sym n;
+        auto_end = mid_len from to ls.auto_end r.in_auto_end ∙ sym n;
       } in
-      record {
-        even = even;
-        alignment_length = mid_len from to alignment (omega (arith, w, s.alignment_length)) ∙ sym n;
-        auto_length = mid_len from to auto-size (omega (arith, w, s.auto_length)) ∙ sym n;
-      }
+      record { even = even; alignment_length = mid_len from to alignment r.in_alignment ∙ sym n; auto_length = mid_len from to auto-size r.in_auto_size ∙ sym n }
 
   pub lent_room : AcrossRoom (length (mid_of from (to - from) ls.measured)) (mid_of from (to - from) sizes) (mid_of from (to - from) starts) (mid_of from (to - from) ends) (mid_of from (to - from) offsets)
   lent_room =

@@ -1,4 +1,4 @@
--- How many margins of a side are auto, as a chain counts them. Assumes nothing.
+-- How many margins of a side are auto, as a chain counts them, and that they are no more than were counted over. Assumes nothing.
 use mathlib.Core.Path.{◌≡◌, refl, sym, ap, ◌∙◌}
 use mathlib.Core.Bool.{Bool, true, false, cond, not}
 use mathlib.Core.List.{List}
@@ -24,3 +24,12 @@ autos_taken auto (suc n) h = by (eqb (get_or auto n 0) 0) refl (autos_taken auto
 
 pub autos_counted : (auto : List ℕ) → count_by (λ (x : ℕ). not (eqb x 0)) auto ≡ autos auto (length auto)
 autos_counted auto = ap (count_by (λ (x : ℕ). not (eqb x 0))) (sym (take_all (length auto) auto (omega arith))) ∙ autos_taken auto (length auto) (omega arith)
+
+pub autos-within : (auto : List ℕ) (n : ℕ) → autos auto n ≤ n
+unfolding autos
+autos-within auto zero = omega arith
+autos-within auto (suc n) = by (eqb (get_or auto n 0) 0) (autos-within auto n)
+  where
+    by : (b : Bool) → autos auto n ≤ n → cond b (autos auto n) (autos auto n + 1) ≤ suc n
+    by true h = omega arith
+    by false h = omega arith

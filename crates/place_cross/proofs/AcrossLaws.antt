@@ -2,7 +2,7 @@
 use mathlib.Core.Path.{◌≡◌, refl, ap}
 use mathlib.Core.Bool.{Bool}
 use mathlib.Core.List.{List}
-use Prim.Native.Nat.{ℕ, ◌+◌, ◌<◌}
+use Prim.Native.Nat.{ℕ, ◌+◌, ◌≤◌, ◌<◌}
 use native.Mathlib.Omega.{arith}
 use lib.ListN.{length, set, length-set}
 use lib.Ieee.{Float}
@@ -12,7 +12,7 @@ use Rattle.place_cross.specs.declared.cross_axis.CrossPlace.{CrossPlace}
 use Rattle.lists.specs.Cells.{overwritten}
 use Rattle.place_cross.specs.CrossAxis.{placed_item}
 use Rattle.place_cross.specs.Parts.{AcrossRoom}
-use Rattle.lists.proofs.Each.{written_none, written_turn}
+use Rattle.lists.proofs.Each.{written_none, written_turn, written_length}
 
 pub placed_same : (reversed auto-size : Bool) {x y : Float} {a b : CrossItem} {s t : SelfAlignment} → x ≡ y → a ≡ b → s ≡ t → placed_item x reversed a s auto-size ≡ placed_item y reversed b t auto-size
 placed_same reversed auto-size p q r = rw (p, q, r)
@@ -52,6 +52,13 @@ pub record Long (sizes₀ starts₀ ends₀ offsets₀ sizes starts ends offsets
   pub ends_long : length ends ≡ length ends₀
   pub offsets_long : length offsets ≡ length offsets₀
 
-module _ (p : ℕ → CrossPlace) (sizes₀ starts₀ ends₀ offsets₀ : List Float) {sizes starts ends offsets : List Float} {i : ℕ} (w : Writing p sizes₀ starts₀ ends₀ offsets₀ sizes starts ends offsets i) where
+-- the first i of n items are placed
+module _ (n : ℕ) (p : ℕ → CrossPlace) (sizes₀ starts₀ ends₀ offsets₀ : List Float) (room : AcrossRoom n sizes₀ starts₀ ends₀ offsets₀) {sizes starts ends offsets : List Float} {i : ℕ} (inside : i ≤ n)
+    (sizes_are : sizes ≡ overwritten i (λ k. (p k).size) sizes₀) (starts_are : starts ≡ overwritten i (λ k. (p k).start) starts₀) (ends_are : ends ≡ overwritten i (λ k. (p k).end) ends₀) (offsets_are : offsets ≡ overwritten i (λ k. (p k).offset) offsets₀) where
   pub writing_long : Long sizes₀ starts₀ ends₀ offsets₀ sizes starts ends offsets
-  writing_long = record { sizes_long = w.sizes_long; starts_long = w.starts_long; ends_long = w.ends_long; offsets_long = w.offsets_long }
+  writing_long = record {
+    sizes_long = written_length i (λ k. (p k).size) sizes₀ (omega (arith, inside, room.sizes_room)) sizes_are;
+    starts_long = written_length i (λ k. (p k).start) starts₀ (omega (arith, inside, room.starts_room)) starts_are;
+    ends_long = written_length i (λ k. (p k).end) ends₀ (omega (arith, inside, room.ends_room)) ends_are;
+    offsets_long = written_length i (λ k. (p k).offset) offsets₀ (omega (arith, inside, room.offsets_room)) offsets_are;
+  }
